@@ -1,0 +1,14 @@
+pub mod Codes
+pub mod Formulas
+pub mod Table
+pub mod Paths
+pub mod Core
+pub mod Meaning
+pub mod Words
+pub mod Rounds
+pub mod Deciding
+pub mod Existential
+pub mod Listing
+pub mod Laws
+pub mod Display
+pub mod Endings
