@@ -1,0 +1,17 @@
+pub mod Steps
+pub mod BraceWalks
+pub mod NodeWalks
+pub mod PartWalks
+pub mod NameWalks
+pub mod SetBits
+pub mod GrammarWalks
+pub mod HeadWords
+pub mod GrammarSplits
+pub mod FormulaSplits
+pub mod SheetWalks
+pub mod Flats
+pub mod SheetLaws
+pub mod SheetReadings
+pub mod Trees
+pub mod WholeLaws
+pub mod WholeLoops

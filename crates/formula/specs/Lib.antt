@@ -1,0 +1,9 @@
+pub mod Nodes
+pub mod Heads
+pub mod Braces
+pub mod Rules
+pub mod Reading
+pub mod VariablesReading
+pub mod Grammar
+pub mod Sheets
+pub mod Wholes
