@@ -1,0 +1,4 @@
+pub mod Bytes
+pub mod Passes
+pub mod Stores
+pub mod Views

@@ -1,0 +1,5 @@
+mod Covering
+mod Marks
+pub mod Refusals
+mod Smallest
+mod Valuations
