@@ -1,0 +1,4 @@
+pub mod Minimal
+pub mod Numbers
+pub mod Order
+pub mod Smallest
