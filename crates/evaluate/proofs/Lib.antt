@@ -1,0 +1,13 @@
+mod Succeeding
+mod Booleans
+mod Arcs
+mod Stepping
+mod Meanings
+mod Turns
+mod Reaching
+mod Working
+mod NodeRows
+mod Heads
+mod Beginnings
+mod Parts
+mod Answering
