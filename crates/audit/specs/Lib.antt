@@ -1,0 +1,4 @@
+pub mod Runs
+pub mod Laws
+pub mod Running
+pub mod Audits
