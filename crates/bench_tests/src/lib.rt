@@ -16,7 +16,8 @@ mod tests {
     use store::single::Single;
     use store::single::SingleStore;
 
-    const DISPLAY: &[u8] = b"3 idle menu lock 2 key bus 1 safe 1 lock safe 3 idle key menu menu key idle menu bus lock";
+    const DISPLAY: &[u8] =
+        b"3 idle menu lock 2 key bus 1 safe 1 lock safe 3 idle key menu menu key idle menu bus lock";
 
     fn display() -> Model {
         let mut model = Model::BLANK;

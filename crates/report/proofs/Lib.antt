@@ -1,0 +1,10 @@
+pub mod Laying
+pub mod Spacing
+pub mod Listing
+pub mod Telling
+pub mod Moving
+pub mod Judging
+pub mod Sheeting
+pub mod Fitting
+pub mod Uniqueness
+pub mod Apart

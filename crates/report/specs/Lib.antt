@@ -1,0 +1,9 @@
+pub mod Marks
+pub mod Lines
+pub mod Texts
+pub mod Listings
+pub mod Formulas
+pub mod Reports
+pub mod Laying
+pub mod Answers
+pub mod Laws
