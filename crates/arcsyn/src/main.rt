@@ -1,4 +1,6 @@
 // arcsyn: sheets from standard input, the report to standard output.
+#![tactic(auto)]
+
 use report::printed;
 use std::io;
 use std::io::{Read, Write};

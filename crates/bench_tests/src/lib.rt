@@ -1,4 +1,6 @@
 // Lists of calls on a bench just opened, against the answers that the rules give.
+#![tactic(auto)]
+
 #[cfg(test)]
 mod tests {
     use audit::audits::run_new;

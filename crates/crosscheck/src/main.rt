@@ -1,4 +1,6 @@
 // crosscheck: one formula judged over two makes of store, and the audit of both.
+#![tactic(auto)]
+
 use audit::audits::{Outcome, audit};
 use bench::call::{Answer, Call};
 use bench::fault::Fault;

@@ -1,4 +1,6 @@
 // Formulas: a flat arena of nodes, and the reader of formula sheets.
+#![tactic(auto)]
+
 ghost use Rattle.std.specs.Prelude.{◌≡◌, [], map, take, slice_index_or};
 ghost use Rattle.words.specs.Words.{name_bytes};
 ghost use Rattle.formula.specs.Nodes.{arity};

@@ -1,4 +1,6 @@
 // The full store: one bit for each code of each set, in the caller's bytes.
+#![tactic(auto)]
+
 pub mod full;
 mod laying;
 mod layout;

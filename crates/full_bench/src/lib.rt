@@ -1,4 +1,6 @@
 // The calls of the full store, repeated for a clock outside (benchmarks/).
+#![tactic(auto)]
+
 use full::full::Full;
 use store::calls::Store;
 use store::fault::Fault;

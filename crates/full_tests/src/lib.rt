@@ -1,4 +1,6 @@
 // What the full store tells a caller of the bytes, and cases of its calls.
+#![tactic(auto)]
+
 ghost use Rattle.std.specs.Prelude.{is_ok};
 ghost use Rattle.logic.specs.Codes.{valuation};
 ghost use Rattle.store.specs.Shapes.{shape_actions, shape_variables};

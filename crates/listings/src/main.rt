@@ -1,4 +1,6 @@
 // listings: what a bench lists for each formula sheet of a text, at every state, over each make of store.
+#![tactic(auto)]
+
 use bench::bench::Bench;
 use bench::fault::Fault;
 use formula::{Formula, read_formula};

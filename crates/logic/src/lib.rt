@@ -1,6 +1,8 @@
 // The logic: what the software is about, as definitions in specs/, and the theorems on it. Each function stands for a
 // theorem, which is its contract.
 
+#![tactic(auto)]
+
 ghost use Rattle.logic.specs.Laws.{RoundsDecide, HoldsOrNot, StagesOrdered, StillMeans, StagesSettle};
 ghost use Rattle.logic.specs.Laws.{RoundsUnique, RoundsOne, RoundsFew, ExistentialGrows, WordsMean};
 ghost use Rattle.logic.specs.Laws.{ValuationTested, InclusionOrder, ListedMinimal};

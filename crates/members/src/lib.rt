@@ -1,4 +1,6 @@
 // Questions over one set of any store: how many members, the one with the fewest ones, those that include no other.
+#![tactic(auto)]
+
 pub mod count;
 pub mod inclusion;
 pub mod laws;

@@ -1,4 +1,6 @@
 // The model sheet: what it is read into, and its reader.
+#![tactic(auto)]
+
 ghost use Rattle.std.specs.Prelude.{◌≡◌};
 ghost use Rattle.model.specs.Models.{ReadsModel};
 ghost use Rattle.model.specs.Rules.{no_content};

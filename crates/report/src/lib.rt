@@ -1,4 +1,6 @@
 // A text in, the action list out: reports of formulas over models.
+#![tactic(auto)]
+
 ghost use Rattle.std.specs.Prelude.{◌≡◌};
 ghost use Rattle.report.specs.Answers.{report_number};
 

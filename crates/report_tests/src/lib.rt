@@ -1,4 +1,6 @@
 // Cases of the report: texts, and what is reported of them.
+#![tactic(auto)]
+
 #[cfg(test)]
 mod tests {
     use report::{ReportFault, arcsyn_report, printed, report};

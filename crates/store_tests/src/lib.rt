@@ -1,4 +1,6 @@
 // Cases for the stores, by tables of calls and answers.
+#![tactic(auto)]
+
 #[cfg(test)]
 mod fixed_cases;
 #[cfg(test)]

@@ -1,4 +1,6 @@
 // Words, counts and names of a text.
+#![tactic(auto)]
+
 ghost use Rattle.std.specs.Prelude.{◌≡◌, ◌<◌, ◌≤◌, map, length, IfSome, IfOk};
 ghost use Rattle.std.specs.Str.{bytes_eq};
 ghost use Rattle.words.specs.Words.{within, RunEnd, counted, class_of_first, class_of_tail, named, name_bytes, name_from, lookup};
