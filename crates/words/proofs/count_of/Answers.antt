@@ -4,12 +4,12 @@ use Rattle.std.proofs.lemmas.Bool.Decides.{nat_tests}
 use Rattle.words.specs.Words.{decimal, limited, between, counted}
 use Rattle.words.proofs.Steps.{past, digit_more, digit_none}
 use Rattle.words.proofs.count_of.Goals as goal
-use Rattle.words.proofs.count_of.Goals.{then_b_lt48_via_then_b_lt48, then_b_lt48_via_else_b_lt48+then_b_gt57}
+use Rattle.words.proofs.count_of.Goals.{then-b-lt48-via-then-b-lt48, then-b-lt48-via-else-b-lt48+then-b-gt57}
 
 pub returns-then-b-lt48 : goal.returns-then-b-lt48
 returns-then-b-lt48 c =
     let e = ap (λ bs. limited c.args.low c.args.high (decimal c.loop-b.n bs)) (drop_more c.args.word.now c.loop-b.b-index 0 (omega arith)) in
-    let d = ap (limited c.args.low c.args.high) (digit_none c.loop-b.n (get_or c.args.word.now c.loop-b.b-index 0) (drop (c.loop-b.b-index + 1) c.args.word.now) (elim c.then-b-lt48.branch [ then_b_lt48_via_then_b_lt48 w ↦ inl w.if-b-lt48.true | then_b_lt48_via_else_b_lt48+then_b_gt57 w ↦ inr w.if-b-gt57.true ])) in
+    let d = ap (limited c.args.low c.args.high) (digit_none c.loop-b.n (get_or c.args.word.now c.loop-b.b-index 0) (drop (c.loop-b.b-index + 1) c.args.word.now) (elim c.then-b-lt48.branch [ then-b-lt48-via-then-b-lt48 w ↦ inl w.if-b-lt48.true | then-b-lt48-via-else-b-lt48+then-b-gt57 w ↦ inr w.if-b-gt57.true ])) in
     record { value = sym d ∙ sym e ∙ c.loop-b.invariant.1; range = tt }
 
 pub returns-then-n-high : goal.returns-then-n-high

@@ -6,13 +6,13 @@ use Rattle.words.specs.Words.{name_bytes}
 use Rattle.words.proofs.Steps.{index_hit, index_miss, index_map}
 use Rattle.words.proofs.find_name.Goals as goal
 
-pub returns-then-name-is : goal.returns-then-name-is
-returns-then-name-is c =
-    record { value = rw index_map (index_hit (λ n. bytes_eq (name_bytes n) c.args.word.now) c.args.names.now c.loop-i.i _ c.loop-i-test.true c.if-name-is.ensures c.loop-i.invariant); range = c.loop-i-test.true }
+pub returns-then-name_is : goal.returns-then-name_is
+returns-then-name_is c =
+    record { value = rw index_map (index_hit (λ n. bytes_eq (name_bytes n) c.args.word.now) c.args.names.now c.loop-i.i _ c.loop-i-test.true c.if-name_is.ensures c.loop-i.invariant); range = c.loop-i-test.true }
 
 pub loop-i-preserved : goal.loop-i-preserved
 loop-i-preserved c =
-    index_miss (λ n. bytes_eq (name_bytes n) c.args.word.now) c.args.names.now c.loop-i.i _ c.loop-i-test.true c.if-name-is.ensures c.loop-i.invariant
+    index_miss (λ n. bytes_eq (name_bytes n) c.args.word.now) c.args.names.now c.loop-i.i _ c.loop-i-test.true c.if-name_is.ensures c.loop-i.invariant
 
 pub returns : goal.returns
 returns c =

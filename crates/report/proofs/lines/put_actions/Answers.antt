@@ -7,7 +7,7 @@ use Rattle.report.specs.Lines.{spaced, none, passing}
 use Rattle.report.proofs.Laying.{lays_same, lays_to}
 use Rattle.report.proofs.Spacing.{spaced_lays, none_push, passing_yes, passing_no}
 use Rattle.report.proofs.lines.put_actions.Goals as goal
-use Rattle.report.proofs.lines.put_actions.Goals.{then_code_position_eq1, else_code_position_eq1}
+use Rattle.report.proofs.lines.put_actions.Goals.{then-code-position-eq1, else-code-position-eq1}
 
 pub loop-a-preserved : goal.loop-a-preserved
 loop-a-preserved c =
@@ -19,7 +19,7 @@ loop-a-preserved c =
     let a = c.loop-a.a in
     let ws = passing test names a in
     elim c.if-code-position-eq1.branch [
-      | then_code_position_eq1 w ↦
+      | then-code-position-eq1 w ↦
           let more = passing_yes test names a (eq-eqb (c.args.code / 2 ^ (c.args.position + a) % 2) 1 w.if-code-position-eq1.true) in
           let here = get_or-map name_bytes xs a _ [] c.loop-a-test.true in (
             lays_same m o _ _ _ _ (ap spaced (sym more))
@@ -28,7 +28,7 @@ loop-a-preserved c =
                 c.loop-a.invariant.0 c.loop-a.invariant.1 w.put-gap-behind.ensures (lays_same _ _ _ _ _ _ (sym here) w.put-name-behind.ensures))),
             w.first-is ∙ sym (none_push ws (get_or names a [])) ∙ ap none (sym more),
           )
-      | else_code_position_eq1 w ↦
+      | else-code-position-eq1 w ↦
           let same = passing_no test names a (ne_eqb (c.args.code / 2 ^ (c.args.position + a) % 2) 1 w.if-code-position-eq1.false) in (
             lays_same m o _ _ _ _ (ap spaced (sym same)) (lays_to m o _ c.loop-a.behind c.loop-a.out _ _ w.behind-is w.out-is c.loop-a.invariant.0),
             w.first-is ∙ c.loop-a.invariant.1 ∙ ap none (sym same),

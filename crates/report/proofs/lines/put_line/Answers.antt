@@ -5,7 +5,7 @@ use Rattle.report.specs.Marks.{Lays}
 use Rattle.report.proofs.Laying.{lays_then, lays_same, lays_to}
 use Rattle.report.proofs.Spacing.{line_some, line_none, length_names}
 use Rattle.report.proofs.lines.put_line.Goals as goal
-use Rattle.report.proofs.lines.put_line.Goals.{then_variables_eq0, else_variables_eq0}
+use Rattle.report.proofs.lines.put_line.Goals.{then-variables-eq0, else-variables-eq0}
 
 pub returns : goal.returns
 returns c =
@@ -18,7 +18,7 @@ returns c =
     let code = c.args.code in
     let text : Lays m o (line names vs code) c.if-variables-eq0.behind c.if-variables-eq0.out =
     elim c.if-variables-eq0.branch [
-      | then_variables_eq0 w ↦ lays_to m o _ _ _ _ _ w.behind-is w.out-is (lays_same _ _ _ _ _ _ (line_none names vs code (let zero = w.if-variables-eq0.true in omega arith)) w.put-behind.ensures)
-      | else_variables_eq0 w ↦ lays_to m o _ _ _ _ _ w.behind-is w.out-is (lays_same _ _ _ _ _ _ (line_some names vs code v.variables long (let far = w.if-variables-eq0.false in omega arith)) w.put-variables-behind.ensures)
+      | then-variables-eq0 w ↦ lays_to m o _ _ _ _ _ w.behind-is w.out-is (lays_same _ _ _ _ _ _ (line_none names vs code (let zero = w.if-variables-eq0.true in omega arith)) w.put-behind.ensures)
+      | else-variables-eq0 w ↦ lays_to m o _ _ _ _ _ w.behind-is w.out-is (lays_same _ _ _ _ _ _ (line_some names vs code v.variables long (let far = w.if-variables-eq0.false in omega arith)) w.put-variables-behind.ensures)
     ] in
     lays_then m o _ c.if-variables-eq0.behind c.if-variables-eq0.out line_end c.put.result c.put.new.out text c.put.ensures

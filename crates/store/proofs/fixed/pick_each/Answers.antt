@@ -1,7 +1,7 @@
 use Rattle.std.proofs.lemmas.Bool.{eq-eqb, ne_eqb}
 use Rattle.store.proofs.Covering.{narrowed_pick, narrowed_pass}
 use Rattle.store.proofs.fixed.pick_each.Goals as goal
-use Rattle.store.proofs.fixed.pick_each.Goals.{then_mask_b_eq1+in_ok_pick, else_mask_b_eq1}
+use Rattle.store.proofs.fixed.pick_each.Goals.{then-mask-b-eq1+in_ok-pick, else-mask-b-eq1}
 
 pub loop-b-preserved : goal.loop-b-preserved
 loop-b-preserved g c =
@@ -14,12 +14,12 @@ loop-b-preserved g c =
     let f = t.frame first in
     let m = t.sets first in
     elim c.if-mask-b-eq1.branch [
-      | then_mask_b_eq1+in_ok_pick w ↦
+      | then-mask-b-eq1+in_ok-pick w ↦
           let new = w.pick.new.self in
-          let e = w.in-ok-pick.ensures in
+          let e = w.in_ok-pick.ensures in
           rw w.s-is
           (narrowed_pick f (t.frame old) (t.frame new) m (t.sets old) (t.sets new) i b mask (eq-eqb _ 1 w.if-mask-b-eq1.true) c.loop-b.invariant e.kept e.members)
-      | else_mask_b_eq1 w ↦
+      | else-mask-b-eq1 w ↦
           rw w.s-is
           (narrowed_pass f (t.frame old) m (t.sets old) i b mask (ne_eqb _ 1 w.if-mask-b-eq1.false) c.loop-b.invariant)
     ]

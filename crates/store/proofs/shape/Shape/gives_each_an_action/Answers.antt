@@ -5,8 +5,8 @@ use Rattle.store.specs.Shapes.{shape_actions, shape_variables, shape_limits}
 use Rattle.store.proofs.Valuations.{inhabited_lacks, inhabited_more}
 use Rattle.store.proofs.shape.Shape.gives_each_an_action.Goals as goal
 
-pub overflow-shr-c : goal.overflow-shr-c
-overflow-shr-c c =
+pub overflow_shr-c : goal.overflow_shr-c
+overflow_shr-c c =
     let s = c.args.self in
     let a = c.actions-actions.result in
     let k = c.variables-variables.result in

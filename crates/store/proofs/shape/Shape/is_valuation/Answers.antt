@@ -11,7 +11,7 @@ returns-then-c-codes c =
     let a = shape_actions c.args.self in
     let k = shape_variables c.args.self in
     let x = c.args.c in
-    let r = c.gives-each-an-action.result in
+    let r = c.gives_each_an_action.result in
     let below : ltb x (2 ^ (a * k)) ≡ true = lt-ltb x (2 ^ (a * k)) (omega arith) in
-    let e : r ≡ valuation a k x = c.gives-each-an-action.ensures ∙ sym (ap (λ t. t && inhabited a k x) below) in
+    let e : r ≡ valuation a k x = c.gives_each_an_action.ensures ∙ sym (ap (λ t. t && inhabited a k x) below) in
     record { value = e; decides = Decides-at r (valuation a k x) e (valuation_decides a k x) }
