@@ -57,8 +57,8 @@ pub fn run_new<S: Store + Drop>(
 ) -> Outcome
     ensures many { result.calls ≡ min (length calls.now) (length answers.old) }
     ensures behind { drop result.calls answers.new ≡ drop result.calls answers.old }
-    ensures law { Law frame sets (table_of model.now.table) store calls.now answers.new result.calls }
-    ensures holds { AskedHolds (table_of model.now.table) (frame store) calls.now result.calls state code result.holds }
+    ensures law { Law S.frame S.sets (table_of model.now.table) store calls.now answers.new result.calls }
+    ensures holds { AskedHolds (table_of model.now.table) (S.frame store) calls.now result.calls state code result.holds }
 {
     let mut bench = Bench::open(model, store);
     let count = run(&mut bench, calls, answers);

@@ -11,7 +11,7 @@ use store::calls::Store;
 // As many calls as answers fit.
 pub fn run<S: Store>(bench: &mut Bench<S>, calls: &[Call], answers: &mut [Answer]) -> usize
     ensures many { result ≡ min (length calls.now) (length answers.old) }
-    ensures ran { Ran frame sets bench.old bench.new calls.now answers.new result }
+    ensures ran { Ran S.frame S.sets bench.old bench.new calls.now answers.new result }
     ensures behind { drop result answers.new ≡ drop result answers.old }
 {
     let n = calls.len().min(answers.len());
@@ -25,7 +25,7 @@ pub fn run<S: Store>(bench: &mut Bench<S>, calls: &[Call], answers: &mut [Answer
 fn answer_at<S: Store>(bench: &mut Bench<S>, calls: &[Call], answers: &mut [Answer], i: usize)
     requires called { i < length calls.now }
     requires room { i < length answers.old }
-    ensures { Stepped frame sets bench.old bench.new (slice_index_or calls.now i a_call) answers.old answers.new i }
+    ensures { Stepped S.frame S.sets bench.old bench.new (slice_index_or calls.now i a_call) answers.old answers.new i }
 {
     answers[i] = answer(bench, calls[i]);
 }

@@ -6,8 +6,8 @@ use crate::call::{Answer, Call};
 use store::calls::Store;
 
 pub fn answer<S: Store>(bench: &mut Bench<S>, call: Call) -> Answer
-    ensures says { ByLedger frame sets bench.old call.entry result }
-    ensures left { Left frame sets bench.old bench.new call.entry }
+    ensures says { ByLedger S.frame S.sets bench.old call.entry result }
+    ensures left { Left S.frame S.sets bench.old bench.new call.entry }
 {
     match call {
         Call::Judge(formula) => match bench.judge(formula) {

@@ -34,7 +34,7 @@ pub struct Bench<'a, S: Store> {
 impl<'a, S: Store> Bench<'a, S> {
     // Nothing is judged yet, whatever the sets of the store hold.
     pub fn open(model: &'a Model, store: S) -> Bench<'a, S>
-        ensures blank { Matches frame sets result None }
+        ensures blank { Matches S.frame S.sets result None }
         ensures model { result.model.now ≡ model.now }
         ensures store { result.store ≡ store }
     {
@@ -57,8 +57,8 @@ impl<'a, S: Store> Bench<'a, S> {
     }
 
     pub fn judge(&mut self, formula: &Formula) -> Result<usize, Fault>
-        ensures says { (e : Entry) → Says (bench_table self.old) (frame self.old.store) e (Call.Judge formula.entry) (rounds_as result) }
-        ensures left { Left frame sets self.old self.new (Call.Judge formula.entry) }
+        ensures says { (e : Entry) → Says (bench_table self.old) (S.frame self.old.store) e (Call.Judge formula.entry) (rounds_as result) }
+        ensures left { Left S.frame S.sets self.old self.new (Call.Judge formula.entry) }
     {
         match self.evaluate_formula(formula) {
             Ok(made) => Ok(made),
@@ -67,7 +67,7 @@ impl<'a, S: Store> Bench<'a, S> {
     }
 
     pub fn holds(&self, state: usize, code: usize) -> Result<bool, Fault>
-        ensures { ByLedger frame sets self.now (Call.Holds state code) (holds_as result) }
+        ensures { ByLedger S.frame S.sets self.now (Call.Holds state code) (holds_as result) }
     {
         let set = self.set_of(state)?;
         if !self.in_universe(code) {
@@ -77,35 +77,35 @@ impl<'a, S: Store> Bench<'a, S> {
     }
 
     pub fn next(&self, state: usize, from: usize) -> Result<Option<usize>, Fault>
-        ensures { ByLedger frame sets self.now (Call.Next state from) (next_as result) }
+        ensures { ByLedger S.frame S.sets self.now (Call.Next state from) (next_as result) }
     {
         let set = self.set_of(state)?;
         self.next_in(set, from)
     }
 
     pub fn count(&self, state: usize) -> Result<usize, Fault>
-        ensures { ByLedger frame sets self.now (Call.Count state) (count_as result) }
+        ensures { ByLedger S.frame S.sets self.now (Call.Count state) (count_as result) }
     {
         let set = self.set_of(state)?;
         self.count_in(set)
     }
 
     pub fn smallest(&self, state: usize) -> Result<Option<usize>, Fault>
-        ensures { ByLedger frame sets self.now (Call.Smallest state) (smallest_as result) }
+        ensures { ByLedger S.frame S.sets self.now (Call.Smallest state) (smallest_as result) }
     {
         let set = self.set_of(state)?;
         self.smallest_in(set)
     }
 
     pub fn least(&self, state: usize, from: usize) -> Result<Option<usize>, Fault>
-        ensures { ByLedger frame sets self.now (Call.Least state from) (least_as result) }
+        ensures { ByLedger S.frame S.sets self.now (Call.Least state from) (least_as result) }
     {
         let set = self.set_of(state)?;
         self.least_in(set, from)
     }
 
     fn evaluate_formula(&mut self, formula: &Formula) -> Result<usize, EvaluateFault>
-        ensures { Evaluates frame sets self.old self.new (meaning_of formula.now) result }
+        ensures { Evaluates S.frame S.sets self.old self.new (meaning_of formula.now) result }
     {
         let model = self.model;
         let rounds = evaluate(&model.table, formula, &mut self.store)?;
@@ -129,7 +129,7 @@ impl<'a, S: Store> Bench<'a, S> {
 
     // The store's answer, its refusal told as one of the bench's.
     fn has_in(&self, set: usize, code: usize) -> Result<bool, Fault>
-        ensures { Passed result (Fault.TooFewSets) (set_and_code (frame self.now.store) set code) (λ b. b ≡ sets self.now.store set code) }
+        ensures { Passed result (Fault.TooFewSets) (set_and_code (S.frame self.now.store) set code) (λ b. b ≡ S.sets self.now.store set code) }
     {
         match self.store.has(set, code) {
             Ok(listed) => Ok(listed),
@@ -138,7 +138,7 @@ impl<'a, S: Store> Bench<'a, S> {
     }
 
     fn next_in(&self, set: usize, from: usize) -> Result<Option<usize>, Fault>
-        ensures { Passed result (Fault.PlaceTooHigh) (set_and_start (frame self.now.store) set from) (Least (sets self.now.store set) from) }
+        ensures { Passed result (Fault.PlaceTooHigh) (set_and_start (S.frame self.now.store) set from) (Least (S.sets self.now.store set) from) }
     {
         match self.store.next(set, from) {
             Ok(found) => Ok(found),
@@ -147,7 +147,7 @@ impl<'a, S: Store> Bench<'a, S> {
     }
 
     fn count_in(&self, set: usize) -> Result<usize, Fault>
-        ensures { Passed result (Fault.TooFewSets) (one_set (frame self.now.store) set) (λ n. n ≡ number (sets self.now.store set) (frame_codes (frame self.now.store))) }
+        ensures { Passed result (Fault.TooFewSets) (one_set (S.frame self.now.store) set) (λ n. n ≡ number (S.sets self.now.store set) (frame_codes (S.frame self.now.store))) }
     {
         match count(&self.store, set) {
             Ok(codes) => Ok(codes),
@@ -156,7 +156,7 @@ impl<'a, S: Store> Bench<'a, S> {
     }
 
     fn smallest_in(&self, set: usize) -> Result<Option<usize>, Fault>
-        ensures { Passed result (Fault.TooFewSets) (one_set (frame self.now.store) set) (Smallest (sets self.now.store set)) }
+        ensures { Passed result (Fault.TooFewSets) (one_set (S.frame self.now.store) set) (Smallest (S.sets self.now.store set)) }
     {
         match smallest(&self.store, set) {
             Ok(first) => Ok(first),
@@ -165,7 +165,7 @@ impl<'a, S: Store> Bench<'a, S> {
     }
 
     fn least_in(&self, set: usize, from: usize) -> Result<Option<usize>, Fault>
-        ensures { Passed result (Fault.PlaceTooHigh) (set_and_start (frame self.now.store) set from) (LeastMinimal (frame self.now.store).actions (frame self.now.store).variables (sets self.now.store set) from) }
+        ensures { Passed result (Fault.PlaceTooHigh) (set_and_start (S.frame self.now.store) set from) (LeastMinimal (S.frame self.now.store).actions (S.frame self.now.store).variables (S.sets self.now.store set) from) }
     {
         match least(&self.store, set, from) {
             Ok(code) => Ok(code),
@@ -175,7 +175,7 @@ impl<'a, S: Store> Bench<'a, S> {
 
     // A judgement leaves one set filled with the universe.
     fn in_universe(&self, code: usize) -> bool
-        ensures { (a : Meaning) → Backs frame sets self.now a → result ≡ (frame self.now.store).universe code }
+        ensures { (a : Meaning) → Backs S.frame S.sets self.now a → result ≡ (S.frame self.now.store).universe code }
     {
         match self.store.has(UNIVERSE_SET, code) {
             Ok(inside) => inside,

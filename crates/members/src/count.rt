@@ -8,7 +8,7 @@ use store::calls::Store;
 use store::fault::Fault;
 
 pub fn count<S: Store>(store: &S, i: usize) -> Result<usize, Fault>
-    ensures { Answers result (one_set (frame store.now) i) (λ n. n ≡ number (sets store.now i) (frame_codes (frame store.now))) }
+    ensures { Answers result (one_set (S.frame store.now) i) (λ n. n ≡ number (S.sets store.now i) (frame_codes (S.frame store.now))) }
 {
     let mut n = 0;
     let mut from = 0;

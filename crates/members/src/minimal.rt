@@ -8,7 +8,7 @@ use store::calls::Store;
 use store::fault::Fault;
 
 pub fn least<S: Store>(store: &S, i: usize, from: usize) -> Result<Option<usize>, Fault>
-    ensures { Answers result (set_and_start (frame store.now) i from) (LeastMinimal (frame store.now).actions (frame store.now).variables (sets store.now i) from) }
+    ensures { Answers result (set_and_start (S.frame store.now) i from) (LeastMinimal (S.frame store.now).actions (S.frame store.now).variables (S.sets store.now i) from) }
 {
     let mut at = from;
     while let Some(c) = store.next(i, at)? {
@@ -22,7 +22,7 @@ pub fn least<S: Store>(store: &S, i: usize, from: usize) -> Result<Option<usize>
 
 // Only a lower code can be another that c includes.
 fn includes_no_other<S: Store>(store: &S, i: usize, c: usize) -> Result<bool, Fault>
-    ensures { Answers result (one_set (frame store.now) i) (λ b. Decides b (IncludesNoOther (frame store.now).actions (frame store.now).variables (sets store.now i) c)) }
+    ensures { Answers result (one_set (S.frame store.now) i) (λ b. Decides b (IncludesNoOther (S.frame store.now).actions (S.frame store.now).variables (S.sets store.now i) c)) }
 {
     let mut from = 0;
     while let Some(d) = store.next(i, from)? {

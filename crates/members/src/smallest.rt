@@ -7,7 +7,7 @@ use store::calls::Store;
 use store::fault::Fault;
 
 pub fn smallest<S: Store>(store: &S, i: usize) -> Result<Option<usize>, Fault>
-    ensures { Answers result (one_set (frame store.now) i) (Smallest (sets store.now i)) }
+    ensures { Answers result (one_set (S.frame store.now) i) (Smallest (S.sets store.now i)) }
 {
     let mut first = None;
     let mut from = 0;

@@ -25,8 +25,8 @@ pub(crate) fn put_codes<S: Store>(
 ) -> Result<Mark, Fault>
     requires few { length actions.now * formula.now.variables ≤ 64 }
     requires named { formula.now.variables ≤ length formula.now.names }
-    requires at { set < (frame store.now).count }
-    ensures { MatchResult result (λ n. Lays mark out.old (flat_map (code_line (map name_bytes actions.now) (variable_names formula.now)) (below (sets store.now set) (frame_codes (frame store.now)))) n out.new) (λ _. ⊥) }
+    requires at { set < (S.frame store.now).count }
+    ensures { MatchResult result (λ n. Lays mark out.old (flat_map (code_line (map name_bytes actions.now) (variable_names formula.now)) (below (S.sets store.now set) (frame_codes (S.frame store.now)))) n out.new) (λ _. ⊥) }
 {
     let mut behind = mark;
     let mut from = 0;

@@ -33,7 +33,7 @@ pub(crate) fn lay_formula<S: Store>(
     store: &mut S,
 ) -> Result<Mark, EvaluateFault>
     requires { Small model.now formula.now }
-    ensures { Evaluates (frame store.old) (table_of model.now.table) (meaning_of formula.now) (action_names model.now) (variable_names formula.now) mark out.old result out.new }
+    ensures { Evaluates (S.frame store.old) (table_of model.now.table) (meaning_of formula.now) (action_names model.now) (variable_names formula.now) mark out.old result out.new }
 {
     let rounds = evaluate(&model.table, formula, store)?;
     let count = model.vocabulary.action_count;
@@ -66,8 +66,8 @@ fn put_report<S: Store>(
 ) -> Result<Mark, Fault>
     requires few { length actions.now * formula.now.variables ≤ 64 }
     requires named { formula.now.variables ≤ length formula.now.names }
-    requires at { set < (frame store.now).count }
-    ensures { MatchResult result (λ n. Lays mark out.old (report_text (map name_bytes actions.now) (variable_names formula.now) (below (sets store.now set) (frame_codes (frame store.now))) (length (below (sets store.now universe_set) (frame_codes (frame store.now)))) rounds) n out.new) (λ _. ⊥) }
+    requires at { set < (S.frame store.now).count }
+    ensures { MatchResult result (λ n. Lays mark out.old (report_text (map name_bytes actions.now) (variable_names formula.now) (below (S.sets store.now set) (frame_codes (S.frame store.now))) (length (below (S.sets store.now universe_set) (frame_codes (S.frame store.now)))) rounds) n out.new) (λ _. ⊥) }
 {
     let held = members::count::count(store, set)?;
     let all = members::count::count(store, UNIVERSE_SET)?;

@@ -31,7 +31,7 @@ impl<S: Store> Fixed<S> {
 
 // One pick for each bit of the mask, lowest first.
 fn pick_each<S: Store>(s: &mut S, i: usize, mask: usize) -> Result<(), Fault>
-    ensures { Alters (frame s.old) (frame s.new) (sets s.old) (sets s.new) result (one_set (frame s.old) i) i (λ c. sets s.old i c && covers (frame_bits (frame s.old)) mask c) }
+    ensures { Alters (S.frame s.old) (S.frame s.new) (S.sets s.old) (S.sets s.new) result (one_set (S.frame s.old) i) i (λ c. S.sets s.old i c && covers (frame_bits (S.frame s.old)) mask c) }
 {
     if i >= s.set_count() {
         return Err(Fault::NoSuchSet);

@@ -10,4 +10,4 @@ returns-then-variable-self c =
 pub returns : goal.returns
 returns c =
     let inside : c.args.variable < length c.args.self.now.names = omega arith in
-    c.bytes-of.ensures ∙ name_inside c.args.self.now.names c.args.self.now.variables c.args.variable c.if-variable-self.false inside _
+    c.bytes_of.ensures ∙ name_inside c.args.self.now.names c.args.self.now.variables c.args.variable c.if-variable-self.false inside _

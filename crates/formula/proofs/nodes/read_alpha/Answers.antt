@@ -9,34 +9,34 @@ use Rattle.formula.proofs.Steps.{no_word}
 use Rattle.formula.proofs.NodeWalks.{alpha_unknown, alpha_variable, alpha_opens, braces_walk, braces_refused}
 use Rattle.formula.proofs.nodes.read_alpha.Goals as goal
 
-pub returns-in-err-start : goal.returns-in-err-start
-returns-in-err-start c =
-    let p = err_from_is_err_and c.from-residual.result c.from-residual.ensures.1 in
+pub returns-in_err-start : goal.returns-in_err-start
+returns-in_err-start c =
+    let p = err_from_is_err_and c.from_residual.result c.from_residual.ensures.1 in
     rw (p.1, p.2)
-    (record { reads = λ t ds before. no_word (formula_rules (map name_bytes c.args.names.actions.now) (map name_bytes c.args.names.properties.now)) c.args.text.now (due_alpha t ds (map name_bytes c.args.names.variables.now) before) c.args.pos refl _ _ c.in-err-start.ensures.found })
+    (record { reads = λ t ds before. no_word (formula_rules (map name_bytes c.args.names.actions.now) (map name_bytes c.args.names.properties.now)) c.args.text.now (due_alpha t ds (map name_bytes c.args.names.variables.now) before) c.args.pos refl _ _ c.in_err-start.ensures.found })
 
-pub returns-in-err-set : goal.returns-in-err-set
-returns-in-err-set c =
-    let p = err_from_is_err_and c.from-residual-in-err-set.result c.from-residual-in-err-set.ensures.1 in
+pub returns-in_err-set : goal.returns-in_err-set
+returns-in_err-set c =
+    let p = err_from_is_err_and c.from_residual-in_err-set.result c.from_residual-in_err-set.ensures.1 in
     let actions = map name_bytes c.args.names.actions.now in
     let properties = map name_bytes c.args.names.properties.now in
     let names = map name_bytes c.args.names.variables.now in
     rw (p.1, p.2)
-    (record { reads = λ t ds before. refused_then (formula_rules actions properties) c.args.text.now (due_alpha t ds names before) c.args.pos (in_braces t ds names before (inside 0)) c.in-ok-start.field-0.end _ _ (alpha_opens actions properties names c.args.text.now before c.args.pos _ _ c.in-ok-start.ensures.found t ds c.in-Brace.ensures) (braces_refused actions properties names c.args.text.now before t ds (inside 0) _ _ _ c.in-err-set.ensures.reads) })
+    (record { reads = λ t ds before. refused_then (formula_rules actions properties) c.args.text.now (due_alpha t ds names before) c.args.pos (in_braces t ds names before (inside 0)) c.in_ok-start.field-0.end _ _ (alpha_opens actions properties names c.args.text.now before c.args.pos _ _ c.in_ok-start.ensures.found t ds c.in-Brace.ensures) (braces_refused actions properties names c.args.text.now before t ds (inside 0) _ _ _ c.in_err-set.ensures.reads) })
 
-pub returns-in-ok-set : goal.returns-in-ok-set
-returns-in-ok-set c =
+pub returns-in_ok-set : goal.returns-in_ok-set
+returns-in_ok-set c =
     let actions = map name_bytes c.args.names.actions.now in
     let properties = map name_bytes c.args.names.properties.now in
     let names = map name_bytes c.args.names.variables.now in
-    record { reads = λ t ds before. walks_then (formula_rules actions properties) c.args.text.now (due_alpha t ds names before) c.args.pos (in_braces t ds names before (inside 0)) c.in-ok-start.field-0.end (in_braces t ds names before (closed c.in-ok-set.field-0.set)) _ (alpha_opens actions properties names c.args.text.now before c.args.pos _ _ c.in-ok-start.ensures.found t ds c.in-Brace.ensures) (braces_walk actions properties names c.args.text.now before t ds (inside 0) _ (closed c.in-ok-set.field-0.set) _ c.in-ok-set.ensures.reads) }
+    record { reads = λ t ds before. walks_then (formula_rules actions properties) c.args.text.now (due_alpha t ds names before) c.args.pos (in_braces t ds names before (inside 0)) c.in_ok-start.field-0.end (in_braces t ds names before (closed c.in_ok-set.field-0.set)) _ (alpha_opens actions properties names c.args.text.now before c.args.pos _ _ c.in_ok-start.ensures.found t ds c.in-Brace.ensures) (braces_walk actions properties names c.args.text.now before t ds (inside 0) _ (closed c.in_ok-set.field-0.set) _ c.in_ok-set.ensures.reads) }
 
 pub returns-in-Variable : goal.returns-in-Variable
 returns-in-Variable c = record {
-  reads = λ t ds before. alpha_variable (map name_bytes c.args.names.actions.now) (map name_bytes c.args.names.properties.now) (map name_bytes c.args.names.variables.now) c.args.text.now before c.args.pos _ _ c.in-ok-start.ensures.found t ds c.in-Variable.y c.in-Variable.ensures;
+  reads = λ t ds before. alpha_variable (map name_bytes c.args.names.actions.now) (map name_bytes c.args.names.properties.now) (map name_bytes c.args.names.variables.now) c.args.text.now before c.args.pos _ _ c.in_ok-start.ensures.found t ds c.in-Variable.y c.in-Variable.ensures;
 }
 
 pub returns-in-Unknown : goal.returns-in-Unknown
 returns-in-Unknown c = record {
-  reads = λ t ds before. alpha_unknown (map name_bytes c.args.names.actions.now) (map name_bytes c.args.names.properties.now) (map name_bytes c.args.names.variables.now) c.args.text.now before c.args.pos _ _ c.in-ok-start.ensures.found t ds c.in-Unknown.ensures;
+  reads = λ t ds before. alpha_unknown (map name_bytes c.args.names.actions.now) (map name_bytes c.args.names.properties.now) (map name_bytes c.args.names.variables.now) c.args.text.now before c.args.pos _ _ c.in_ok-start.ensures.found t ds c.in-Unknown.ensures;
 }

@@ -8,24 +8,24 @@ use Rattle.formula.proofs.Steps.{no_word}
 use Rattle.formula.proofs.NameWalks.{name_bad, name_taken, name_goes, kept_name}
 use Rattle.formula.proofs.variables.read_name.Goals as goal
 
-pub returns-in-err-start : goal.returns-in-err-start
-returns-in-err-start c =
-    let p = err_from_is_err_and c.from-residual.result c.from-residual.ensures.1 in
+pub returns-in_err-start : goal.returns-in_err-start
+returns-in_err-start c =
+    let p = err_from_is_err_and c.from_residual.result c.from_residual.ensures.1 in
     rw (p.1, p.2)
-    (record { reads = λ actions properties k. no_word (formula_rules actions properties) c.args.text.now (due_name k (map name_bytes c.args.taken.now)) c.args.pos refl _ _ c.in-err-start.ensures.found; range = tt })
+    (record { reads = λ actions properties k. no_word (formula_rules actions properties) c.args.text.now (due_name k (map name_bytes c.args.taken.now)) c.args.pos refl _ _ c.in_err-start.ensures.found; range = tt })
 
-pub returns-then-not-is-name : goal.returns-then-not-is-name
-returns-then-not-is-name c =
-    record { reads = λ actions properties k. name_bad actions properties c.args.text.now c.args.pos _ _ c.in-ok-start.ensures.found k (map name_bytes c.args.taken.now) (let h = c.if-not-is-name in cc); range = tt }
+pub returns-then-not-is_name : goal.returns-then-not-is_name
+returns-then-not-is_name c =
+    record { reads = λ actions properties k. name_bad actions properties c.args.text.now c.args.pos _ _ c.in_ok-start.ensures.found k (map name_bytes c.args.taken.now) (let h = c.if-not-is_name in cc); range = tt }
 
 pub returns-in-Some : goal.returns-in-Some
 returns-in-Some c =
-    let w = bytes_of c.args.text.now c.in-ok-start.field-0.start c.in-ok-start.field-0.end in
-    let good : named Upper w ≡ true = (let h = c.if-not-is-name in cc) in
-    record { reads = λ actions properties k. name_taken actions properties c.args.text.now c.args.pos _ _ c.in-ok-start.ensures.found k (map name_bytes c.args.taken.now) good (sym (ap is_some c.in-Some.ensures.value)); range = tt }
+    let w = bytes_of c.args.text.now c.in_ok-start.field-0.start c.in_ok-start.field-0.end in
+    let good : named Upper w ≡ true = (let h = c.if-not-is_name in cc) in
+    record { reads = λ actions properties k. name_taken actions properties c.args.text.now c.args.pos _ _ c.in_ok-start.ensures.found k (map name_bytes c.args.taken.now) good (sym (ap is_some c.in-Some.ensures.value)); range = tt }
 
 pub returns-in-None : goal.returns-in-None
 returns-in-None c =
-    let w = bytes_of c.args.text.now c.in-ok-start.field-0.start c.in-ok-start.field-0.end in
-    let good : named Upper w ≡ true = (let h = c.if-not-is-name in cc) in
-    record { reads = λ actions properties k. name_goes actions properties c.args.text.now c.args.pos _ _ c.in-ok-start.ensures.found k (map name_bytes c.args.taken.now) good (sym (ap is_some c.in-None.ensures.value)) c.name-of.result c.name-of.ensures; range = kept_name w c.name-of.result good c.name-of.ensures }
+    let w = bytes_of c.args.text.now c.in_ok-start.field-0.start c.in_ok-start.field-0.end in
+    let good : named Upper w ≡ true = (let h = c.if-not-is_name in cc) in
+    record { reads = λ actions properties k. name_goes actions properties c.args.text.now c.args.pos _ _ c.in_ok-start.ensures.found k (map name_bytes c.args.taken.now) good (sym (ap is_some c.in-None.ensures.value)) c.name_of.result c.name_of.ensures; range = kept_name w c.name_of.result good c.name_of.ensures }

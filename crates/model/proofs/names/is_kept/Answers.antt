@@ -8,5 +8,5 @@ use Rattle.model.proofs.names.is_kept.Goals as goal
 pub returns-in-Properties : goal.returns-in-Properties
 returns-in-Properties c =
     let w = c.args.word.now in
-    subst (λ k. Decides c.is-reserved.result (Kept k w)) (sym c.in-Properties.is)
-    (Decides-at c.is-reserved.result (among w reserved_words) c.is-reserved.ensures (among_decides w reserved_words))
+    subst (λ k. Decides c.is_reserved.result (Kept k w)) (sym c.in-Properties.is)
+    (Decides-at c.is_reserved.result (among w reserved_words) c.is_reserved.ensures (among_decides w reserved_words))

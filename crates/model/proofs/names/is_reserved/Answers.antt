@@ -3,4 +3,4 @@ use Rattle.model.proofs.names.is_reserved.Goals as goal
 
 pub returns : goal.returns
 returns c =
-    among_reserved c.args.word.now c.is-connective.result c.is-some-word.result c.is-all-word.result c.is-connective.ensures c.is-some-word.ensures c.is-all-word.ensures
+    among_reserved c.args.word.now c.is_connective.result c.is_some_word.result c.is_all_word.result c.is_connective.ensures c.is_some_word.ensures c.is_all_word.ensures

@@ -8,7 +8,7 @@ returns c =
     let n = c.args.self.now.count in
     let long : length names ≡ 64 = omega arith in
     record {
-      value = looked names n c.min-count.result _ c.min-count.ensures (omega arith) c.args.word.now c.find-name.result c.find-name.ensures.value;
-      range = subst (λ k. IfSome c.find-name.result (λ i. (i < n) × (i < k))) long
-          (looked_inside names n c.min-count.result _ c.min-count.ensures (omega arith) c.find-name.result c.find-name.ensures.range);
+      value = looked names n c.min-count.result _ c.min-count.ensures (omega arith) c.args.word.now c.find_name.result c.find_name.ensures.value;
+      range = subst (λ k. IfSome c.find_name.result (λ i. (i < n) × (i < k))) long
+          (looked_inside names n c.min-count.result _ c.min-count.ensures (omega arith) c.find_name.result c.find_name.ensures.range);
     }

@@ -10,4 +10,4 @@ returns-then-state-self c =
 pub returns : goal.returns
 returns c =
     let inside : c.args.state < length c.args.self.now.names = omega arith in
-    c.bytes-of.ensures ∙ name_inside c.args.self.now.names c.args.self.now.count c.args.state c.if-state-self.false inside _
+    c.bytes_of.ensures ∙ name_inside c.args.self.now.names c.args.self.now.count c.args.state c.if-state-self.false inside _
