@@ -15,21 +15,21 @@ returns-in_err-start c =
     rw (p.1, p.2)
     (record { reads = λ t ds before. no_word (formula_rules (map name_bytes c.args.names.actions.now) (map name_bytes c.args.names.properties.now)) c.args.text.now (due_alpha t ds (map name_bytes c.args.names.variables.now) before) c.args.pos refl _ _ c.in_err-start.ensures.found })
 
-pub returns-in_err-set : goal.returns-in_err-set
-returns-in_err-set c =
-    let p = err_from_is_err_and c.from_residual-in_err-set.result c.from_residual-in_err-set.ensures.1 in
+pub returns-in_err-set-in-Brace : goal.returns-in_err-set-in-Brace
+returns-in_err-set-in-Brace c =
+    let p = err_from_is_err_and c.from_residual-in_err-set-in-Brace.result c.from_residual-in_err-set-in-Brace.ensures.1 in
     let actions = map name_bytes c.args.names.actions.now in
     let properties = map name_bytes c.args.names.properties.now in
     let names = map name_bytes c.args.names.variables.now in
     rw (p.1, p.2)
-    (record { reads = λ t ds before. refused_then (formula_rules actions properties) c.args.text.now (due_alpha t ds names before) c.args.pos (in_braces t ds names before (inside 0)) c.in_ok-start.field-0.end _ _ (alpha_opens actions properties names c.args.text.now before c.args.pos _ _ c.in_ok-start.ensures.found t ds c.in-Brace.ensures) (braces_refused actions properties names c.args.text.now before t ds (inside 0) _ _ _ c.in_err-set.ensures.reads) })
+    (record { reads = λ t ds before. refused_then (formula_rules actions properties) c.args.text.now (due_alpha t ds names before) c.args.pos (in_braces t ds names before (inside 0)) c.in_ok-start.field-0.end _ _ (alpha_opens actions properties names c.args.text.now before c.args.pos _ _ c.in_ok-start.ensures.found t ds c.in-Brace.ensures) (braces_refused actions properties names c.args.text.now before t ds (inside 0) _ _ _ c.in_err-set-in-Brace.ensures.reads) })
 
-pub returns-in_ok-set : goal.returns-in_ok-set
-returns-in_ok-set c =
+pub returns-in_ok-set-in-Brace : goal.returns-in_ok-set-in-Brace
+returns-in_ok-set-in-Brace c =
     let actions = map name_bytes c.args.names.actions.now in
     let properties = map name_bytes c.args.names.properties.now in
     let names = map name_bytes c.args.names.variables.now in
-    record { reads = λ t ds before. walks_then (formula_rules actions properties) c.args.text.now (due_alpha t ds names before) c.args.pos (in_braces t ds names before (inside 0)) c.in_ok-start.field-0.end (in_braces t ds names before (closed c.in_ok-set.field-0.set)) _ (alpha_opens actions properties names c.args.text.now before c.args.pos _ _ c.in_ok-start.ensures.found t ds c.in-Brace.ensures) (braces_walk actions properties names c.args.text.now before t ds (inside 0) _ (closed c.in_ok-set.field-0.set) _ c.in_ok-set.ensures.reads) }
+    record { reads = λ t ds before. walks_then (formula_rules actions properties) c.args.text.now (due_alpha t ds names before) c.args.pos (in_braces t ds names before (inside 0)) c.in_ok-start.field-0.end (in_braces t ds names before (closed c.in_ok-set-in-Brace.field-0.set)) _ (alpha_opens actions properties names c.args.text.now before c.args.pos _ _ c.in_ok-start.ensures.found t ds c.in-Brace.ensures) (braces_walk actions properties names c.args.text.now before t ds (inside 0) _ (closed c.in_ok-set-in-Brace.field-0.set) _ c.in_ok-set-in-Brace.ensures.reads) }
 
 pub returns-in-Variable : goal.returns-in-Variable
 returns-in-Variable c = record {

@@ -11,5 +11,5 @@ returns-in-1 c = λ m h. let e : c.args.bits ≡ 1 = omega arith in rw e (low_co
 pub returns-in-2 : goal.returns-in-2
 returns-in-2 c = λ m h. let e : c.args.bits ≡ 2 = omega arith in rw e (low_codes_2 m h)
 
-pub returns-in-default : goal.returns-in-default
-returns-in-default c = λ m h. low_codes_all c.args.bits m (omega arith) h
+pub returns-in_default : goal.returns-in_default
+returns-in_default c = λ m h. low_codes_all c.args.bits m (omega arith) h

@@ -3,18 +3,18 @@ use Rattle.full.specs.Bytes.{width}
 use Rattle.full.proofs.Widths.{set_fits}
 use Rattle.full.proofs.layout.start_of.Goals as goal
 
-pub overflow-mul-result : goal.overflow-mul-result
-overflow-mul-result c =
+pub overflow_mul-result : goal.overflow_mul-result
+overflow_mul-result c =
     let w = width c.args.bits in
     let inside : c.args.i < c.args.len / w = omega arith in
     let h = set_fits c.args.i w c.args.len inside in
-    let e = ap (λ t. c.args.i * t) c.set-width.ensures.value in
+    let e = ap (λ t. c.args.i * t) c.set_width.ensures.value in
     omega arith
 
-pub returns-then-i-sets-in : goal.returns-then-i-sets-in
-returns-then-i-sets-in c =
+pub returns-then-i-sets_in : goal.returns-then-i-sets_in
+returns-then-i-sets_in c =
     let w = width c.args.bits in
     let inside : c.args.i < c.args.len / w = omega arith in
     let h = set_fits c.args.i w c.args.len inside in
-    let e = ap (λ t. c.args.i * t) c.set-width.ensures.value in
+    let e = ap (λ t. c.args.i * t) c.set_width.ensures.value in
     (inside, e, omega arith)

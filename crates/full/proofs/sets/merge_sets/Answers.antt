@@ -8,12 +8,12 @@ use Rattle.full.proofs.Members.{merged_set, altered, unaltered, by_bits, inside,
 use Rattle.full.proofs.Widths.{starts_apart}
 use Rattle.full.proofs.sets.merge_sets.Goals as goal
 
-pub merge-span-requires : goal.merge-span-requires
-merge-span-requires c =
+pub merge_span-requires : goal.merge_span-requires
+merge_span-requires c =
     let w = width c.args.universe.now.bits in
-    let one = c.in-ok-at.ensures in
-    let two = c.in-ok-from.ensures in
-    let wide = c.set-width.ensures.value in
+    let one = c.in_ok-at.ensures in
+    let two = c.in_ok-from.ensures in
+    let wide = c.set_width.ensures.value in
     record {
       fits = omega (arith, one.2);
       from_fits = omega (arith, two.2);
@@ -28,14 +28,14 @@ returns c =
     let op = c.args.op in
     let i = c.args.i in
     let j = c.args.j in
-    let found = c.in-ok-at.ensures in
-    let also = c.in-ok-from.ensures in
-    let there = inside s u.bits (length old) i c.in-ok-at.at u.counted found in
-    let beside = inside s u.bits (length old) j c.in-ok-from.from u.counted also in
-    merged_set op s u.bits old c.merge-span.new.cells c.mend.new.cells i c.in-ok-at.at c.set-width.result u.mask _
-    (λ x m. bit (get_or old (c.in-ok-from.from + x) 0) m) (λ x. merge_bit op (full_sets s old i x) (full_sets s old j x)) u.counted found c.set-width.ensures.value u.masked
-    (c.mend.auto.cells ∙ c.merge-span.auto.cells) c.merge-span.ensures c.mend.ensures (two_sets_none (full_frame s old) i j there beside)
-    (λ x x<. ap (merge_bit op (full_sets s old i x)) (sym (found_bits s u.bits old j c.in-ok-from.from x u.counted also x<)))
+    let found = c.in_ok-at.ensures in
+    let also = c.in_ok-from.ensures in
+    let there = inside s u.bits (length old) i c.in_ok-at.at u.counted found in
+    let beside = inside s u.bits (length old) j c.in_ok-from.from u.counted also in
+    merged_set op s u.bits old c.merge_span.new.cells c.mend.new.cells i c.in_ok-at.at c.set_width.result u.mask _
+    (λ x m. bit (get_or old (c.in_ok-from.from + x) 0) m) (λ x. merge_bit op (full_sets s old i x) (full_sets s old j x)) u.counted found c.set_width.ensures.value u.masked
+    (c.mend.auto.cells ∙ c.merge_span.auto.cells) c.merge_span.ensures c.mend.ensures (two_sets_none (full_frame s old) i j there beside)
+    (λ x x<. ap (merge_bit op (full_sets s old i x)) (sym (found_bits s u.bits old j c.in_ok-from.from x u.counted also x<)))
     (λ x ge. merge_none op _ _ (no_code (shape_bits s) old i x ge) (no_code (shape_bits s) old j x ge))
 
 pub returns-then-i-j : goal.returns-then-i-j
@@ -47,8 +47,8 @@ returns-then-i-j c =
     let i = c.args.i in
     let j = c.args.j in
     let equal : i ≡ j = omega arith in
-    let there = inside s u.bits (length old) i c.in-ok-at.at u.counted c.in-ok-at.ensures in
-    let beside = inside s u.bits (length old) j c.in-ok-from.from u.counted c.in-ok-from.ensures in
+    let there = inside s u.bits (length old) i c.in_ok-at.at u.counted c.in_ok-at.ensures in
+    let beside = inside s u.bits (length old) j c.in_ok-from.from u.counted c.in_ok-from.ensures in
     altered s old old _ i (λ x. merge_bit op (full_sets s old i x) (full_sets s old j x)) (two_sets_none (full_frame s old) i j there beside)
     (unaltered (shape_bits s) old i _ (λ x x<. sym (by_bits (shape_bits s) old i x there x<) ∙ sym (c.requires (full_sets s old i x)) ∙ ap (λ k. merge_bit op (full_sets s old i x) (full_sets s old k x)) equal))
     there

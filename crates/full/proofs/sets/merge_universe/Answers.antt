@@ -15,11 +15,11 @@ returns c =
     let old = c.args.cells.now in
     let op = c.args.op in
     let i = c.args.i in
-    let found = c.in-ok-at.ensures in
-    let free = one_set_none (full_frame s old) i (inside s u.bits (length old) i c.in-ok-at.at u.counted found) in
+    let found = c.in_ok-at.ensures in
+    let free = one_set_none (full_frame s old) i (inside s u.bits (length old) i c.in_ok-at.at u.counted found) in
     let whole = valuation (shape_actions s) (shape_variables s) in
-    merged_set op s u.bits old c.merge-from.new.cells c.mend.new.cells i c.in-ok-at.at c.set-width.result u.mask _
-    (λ x m. bit (get_or u.bytes x 0) m) (λ x. merge_bit op (full_sets s old i x) (whole x)) u.counted found c.set-width.ensures.value u.masked
-    (c.mend.auto.cells ∙ c.merge-from.auto.cells) c.merge-from.ensures c.mend.ensures free
+    merged_set op s u.bits old c.merge_from.new.cells c.mend.new.cells i c.in_ok-at.at c.set_width.result u.mask _
+    (λ x m. bit (get_or u.bytes x 0) m) (λ x. merge_bit op (full_sets s old i x) (whole x)) u.counted found c.set_width.ensures.value u.masked
+    (c.mend.auto.cells ∙ c.merge_from.auto.cells) c.merge_from.ensures c.mend.ensures free
     (λ x x<. ap (merge_bit op (full_sets s old i x)) (ap (λ p. bit (get_or u.bytes p 0) (x % 8)) (sym (zero-add (x / 8))) ∙ u.laid x))
     (λ x ge. merge_none op _ _ (no_code (shape_bits s) old i x ge) (no_valuation (shape_actions s) (shape_variables s) x ge))

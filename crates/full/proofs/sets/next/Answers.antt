@@ -11,11 +11,11 @@ returns-then-d-codes c =
     let s = u.shape in
     let bytes = c.args.cells.now in
     let i = c.args.i in
-    let found = c.in-ok-at.ensures in
-    let there = inside s u.bits (length bytes) i c.in-ok-at.at u.counted found in
+    let found = c.in_ok-at.ensures in
+    let there = inside s u.bits (length bytes) i c.in_ok-at.at u.counted found in
     let same = ap (λ v. 2 ^ v) u.counted in
     answers_ok _ _ _ (set_and_start_none (full_frame s bytes) i c.args.c there (omega arith))
-    (next_some s u.bits bytes i c.in-ok-at.at c.set-width.result c.args.c c.next-bit-d.result u.counted found c.set-width.ensures.value c.next-bit-d.ensures (omega arith))
+    (next_some s u.bits bytes i c.in_ok-at.at c.set_width.result c.args.c c.next_bit-d.result u.counted found c.set_width.ensures.value c.next_bit-d.ensures (omega arith))
 
 pub returns-else-d-codes : goal.returns-else-d-codes
 returns-else-d-codes c =
@@ -23,8 +23,8 @@ returns-else-d-codes c =
     let s = u.shape in
     let bytes = c.args.cells.now in
     let i = c.args.i in
-    let found = c.in-ok-at.ensures in
-    let there = inside s u.bits (length bytes) i c.in-ok-at.at u.counted found in
+    let found = c.in_ok-at.ensures in
+    let there = inside s u.bits (length bytes) i c.in_ok-at.at u.counted found in
     let same = ap (λ v. 2 ^ v) u.counted in
     answers_ok _ _ _ (set_and_start_none (full_frame s bytes) i c.args.c there (omega arith))
-    (next_none s u.bits bytes i c.in-ok-at.at c.set-width.result c.args.c c.next-bit-d.result u.counted found c.set-width.ensures.value c.next-bit-d.ensures (omega arith))
+    (next_none s u.bits bytes i c.in_ok-at.at c.set_width.result c.args.c c.next_bit-d.result u.counted found c.set_width.ensures.value c.next_bit-d.ensures (omega arith))

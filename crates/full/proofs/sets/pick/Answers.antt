@@ -12,10 +12,10 @@ pub pick-requires : goal.pick-requires
 pick-requires c =
     let u = c.args.universe.now in
     record {
-      fits = (let found = c.in-ok-at.ensures in omega (arith, found.2, c.set-width.ensures.value));
+      fits = (let found = c.in_ok-at.ensures in omega (arith, found.2, c.set_width.ensures.value));
       few = omega arith;
       small = omega (arith, u.most);
-      whole = λ h. ap (λ t. t % 2 ^ (c.args.b - 2)) c.set-width.ensures.value ∙ width_whole u.bits c.args.b (omega arith) h;
+      whole = λ h. ap (λ t. t % 2 ^ (c.args.b - 2)) c.set_width.ensures.value ∙ width_whole u.bits c.args.b (omega arith) h;
     }
 
 pub returns : goal.returns
@@ -25,11 +25,11 @@ returns c =
     let old = c.args.cells.now in
     let i = c.args.i in
     let b = c.args.b in
-    let found = c.in-ok-at.ensures in
-    let there = inside s u.bits (length old) i c.in-ok-at.at u.counted found in
+    let found = c.in_ok-at.ensures in
+    let there = inside s u.bits (length old) i c.in_ok-at.at u.counted found in
     let small : b < shape_bits s = omega (arith, u.counted) in
-    merged_set Meet s u.bits old c.pick.new.cells c.mend.new.cells i c.in-ok-at.at c.set-width.result u.mask _
-    (λ x m. bit (8 * x + m) b) (λ x. full_sets s old i x && bit x b) u.counted found c.set-width.ensures.value u.masked
+    merged_set Meet s u.bits old c.pick.new.cells c.mend.new.cells i c.in_ok-at.at c.set_width.result u.mask _
+    (λ x m. bit (8 * x + m) b) (λ x. full_sets s old i x && bit x b) u.counted found c.set_width.ensures.value u.masked
     (c.mend.auto.cells ∙ c.pick.auto.cells) c.pick.ensures c.mend.ensures (set_and_bit_none (full_frame s old) i b there small)
     (λ x x<. ap (λ e. full_sets s old i x && bit e b) (let whole : 8 * (x / 8) + x % 8 ≡ x = omega arith in whole))
     (λ x ge. and_left _ _ (no_code (shape_bits s) old i x ge))

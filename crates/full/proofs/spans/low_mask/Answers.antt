@@ -8,5 +8,5 @@ returns-in-0 c = λ m h. let e : c.args.b ≡ 0 = omega arith in rw e (mask_0 m 
 pub returns-in-1 : goal.returns-in-1
 returns-in-1 c = λ m h. let e : c.args.b ≡ 1 = omega arith in rw e (mask_1 m h)
 
-pub returns-in-default : goal.returns-in-default
-returns-in-default c = λ m h. let e : c.args.b ≡ 2 = omega arith in rw e (mask_2 m h)
+pub returns-in_default : goal.returns-in_default
+returns-in_default c = λ m h. let e : c.args.b ≡ 2 = omega arith in rw e (mask_2 m h)

@@ -9,14 +9,14 @@ use Rattle.full.proofs.spans.pick.Goals as goal
 
 pub returns-then-b-lt3 : goal.returns-then-b-lt3
 returns-then-b-lt3 c =
-    span_like Meet c.args.cells.now _ c.args.at c.args.count _ _ c.merge-byte.ensures (λ x m x< m<. c.low-mask.ensures m m< ∙ low_code c.args.b x m (omega arith))
+    span_like Meet c.args.cells.now _ c.args.at c.args.count _ _ c.merge_byte.ensures (λ x m x< m<. c.low_mask.ensures m m< ∙ low_code c.args.b x m (omega arith))
 
 pub returns-then-b-lt9 : goal.returns-then-b-lt9
 returns-then-b-lt9 c =
-    span_like Meet c.args.cells.now _ c.args.at c.args.count _ _ c.keep-bytes.ensures (λ x m x< m<. high_code c.args.b x m (omega arith) m<)
+    span_like Meet c.args.cells.now _ c.args.at c.args.count _ _ c.keep_bytes.ensures (λ x m x< m<. high_code c.args.b x m (omega arith) m<)
 
-pub clear-runs-requires : goal.clear-runs-requires
-clear-runs-requires c =
+pub clear_runs-requires : goal.clear_runs-requires
+clear_runs-requires c =
     let b = c.args.b in
     let run : 1 * 2 ^ (b - 3) % 2 ^ 64 ≡ 2 ^ (b - 3) = one_shl (b - 3) 64 (omega arith) in
     let whole = runs_count c.args.count b (omega arith) (c.requires.whole (omega arith)) in
@@ -29,11 +29,11 @@ pub returns-else-b-lt9 : goal.returns-else-b-lt9
 returns-else-b-lt9 c =
     let b = c.args.b in
     let old = c.args.cells.now in
-    let new = c.clear-runs.new.cells in
+    let new = c.clear_runs.new.cells in
     let at = c.args.at in
     let pairs = c.args.count / 2 ^ (b - 2) in
     let run : 1 * 2 ^ (b - 3) % 2 ^ 64 ≡ 2 ^ (b - 3) = one_shl (b - 3) 64 (omega arith) in
     let whole = runs_count c.args.count b (omega arith) (c.requires.whole (omega arith)) in
     let P : ℕ → Type 0 = λ r. MergedSpan Meet old new at (pairs * (2 * r)) (λ x m. eqb (x / r % 2) 1) in
     let Q : ℕ → Type 0 = λ t. MergedSpan Meet old new at t (λ x m. bit x (b - 3)) in
-    span_like Meet old new at c.args.count (λ x m. bit x (b - 3)) (λ x m. bit (8 * x + m) b) (subst Q whole (subst P run c.clear-runs.ensures)) (λ x m x< m<. high_code b x m (omega arith) m<)
+    span_like Meet old new at c.args.count (λ x m. bit x (b - 3)) (λ x m. bit (8 * x + m) b) (subst Q whole (subst P run c.clear_runs.ensures)) (λ x m x< m<. high_code b x m (omega arith) m<)
