@@ -12,7 +12,7 @@ use Rattle.members.proofs.count.count.Goals.{In-Some}
 step : (g : given.Over) (c : In-Some g) → Told (g.S.Store.frame c.args.store.now) (g.S.Store.sets c.args.store.now c.args.i) c.args.i c.loop-c.from (Some c.in-Some.c)
 step g c =
     let s = c.args.store.now in
-    told (g.S.Store.frame s) (g.S.Store.sets s c.args.i) c.args.i c.loop-c.from (g.S.Store.sound s) c.in-ok-c.field-0 (Some c.in-Some.c) c.in-Some.is c.in-ok-c.ensures
+    told (g.S.Store.frame s) (g.S.Store.sets s c.args.i) c.args.i c.loop-c.from (g.S.Store.sound s) c.in_ok-c.field-0 (Some c.in-Some.c) c.in-Some.is c.in_ok-c.ensures
 
 pub loop-c-smaller : goal.loop-c-smaller
 loop-c-smaller g c =
@@ -38,6 +38,6 @@ returns g c =
     let s = c.args.store.now in
     let f = g.S.Store.frame s in
     let m = g.S.Store.sets s c.args.i in
-    let t = told f m c.args.i c.loop-c.from (g.S.Store.sound s) c.in-ok-c.field-0 None c.in-default.is c.in-ok-c.ensures in
+    let t = told f m c.args.i c.loop-c.from (g.S.Store.sound s) c.in_ok-c.field-0 None c.in_default.is c.in_ok-c.ensures in
     answers_ok c.loop-c.n (λ n. n ≡ number m (frame_codes f)) (one_set f c.args.i) (one_set_none f c.args.i t.inside)
     (c.loop-c.invariant.2 ∙ sym (number_skip m c.loop-c.from (frame_codes f) t.low (λ d low _. t.least d low)))

@@ -13,7 +13,7 @@ use Rattle.members.proofs.minimal.includes_no_other.Goals.{In-Some}
 step : (g : given.Over) (c : In-Some g) → Told (g.S.Store.frame c.args.store.now) (g.S.Store.sets c.args.store.now c.args.i) c.args.i c.loop-d.from (Some c.in-Some.d)
 step g c =
     let s = c.args.store.now in
-    told (g.S.Store.frame s) (g.S.Store.sets s c.args.i) c.args.i c.loop-d.from (g.S.Store.sound s) c.in-ok-d.field-0 (Some c.in-Some.d) c.in-Some.is c.in-ok-d.ensures
+    told (g.S.Store.frame s) (g.S.Store.sets s c.args.i) c.args.i c.loop-d.from (g.S.Store.sound s) c.in_ok-d.field-0 (Some c.in-Some.d) c.in-Some.is c.in_ok-d.ensures
 
 pub returns-then-d-c : goal.returns-then-d-c
 returns-then-d-c g c =

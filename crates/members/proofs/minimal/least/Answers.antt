@@ -11,11 +11,11 @@ use Rattle.members.proofs.minimal.least.Goals.{In-Some}
 step : (g : given.Over) (c : In-Some g) → Told (g.S.Store.frame c.args.store.now) (g.S.Store.sets c.args.store.now c.args.i) c.args.i c.loop-c.at (Some c.in-Some.c)
 step g c =
     let s = c.args.store.now in
-    told (g.S.Store.frame s) (g.S.Store.sets s c.args.i) c.args.i c.loop-c.at (g.S.Store.sound s) c.in-ok-c.field-0 (Some c.in-Some.c) c.in-Some.is c.in-ok-c.ensures
+    told (g.S.Store.frame s) (g.S.Store.sets s c.args.i) c.args.i c.loop-c.at (g.S.Store.sound s) c.in_ok-c.field-0 (Some c.in-Some.c) c.in-Some.is c.in_ok-c.ensures
 
-pub overflow-add-at : goal.overflow-add-at
-overflow-add-at g c =
-    let t = step g (goal.at.overflow-add-at g c).In-Some in
+pub overflow_add-at : goal.overflow_add-at
+overflow_add-at g c =
+    let t = step g (goal.at.overflow_add-at g c).In-Some in
     let below = g.S.Store.coded c.args.store.now c.args.i c.in-Some.c t.least.1 in
     omega (arith, t.most)
 
@@ -38,9 +38,9 @@ loop-c-preserved g c =
     let low = t.least.0 in
     let below = g.S.Store.coded s i x t.least.1 in
     let inv = c.loop-c.invariant in
-    let test = c.in-ok-includes-no-other.field-0 in
+    let test = c.in_ok-includes_no_other.field-0 in
     let Alone : Type 0 = IncludesNoOther f.actions f.variables m x in
-    let decides = (ok_answers test (λ b. Decides b Alone) (one_set f i) c.in-ok-includes-no-other.ensures).1 in
+    let decides = (ok_answers test (λ b. Decides b Alone) (one_set f i) c.in_ok-includes_no_other.ensures).1 in
     let P : ℕ → Type 0 = λ d. c.args.from ≤ d → Minimal f.actions f.variables m d → ⊥ in (
       omega arith,
       set_and_start_none f i (x + 1) t.inside (omega arith) ∙ sym t.started ∙ inv.1,

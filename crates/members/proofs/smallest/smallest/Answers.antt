@@ -8,11 +8,11 @@ use Rattle.members.proofs.smallest.smallest.Goals.{In-Some}
 step : (g : given.Over) (c : In-Some g) → Told (g.S.Store.frame c.args.store.now) (g.S.Store.sets c.args.store.now c.args.i) c.args.i c.loop-c.from (Some c.in-Some.c)
 step g c =
     let s = c.args.store.now in
-    told (g.S.Store.frame s) (g.S.Store.sets s c.args.i) c.args.i c.loop-c.from (g.S.Store.sound s) c.in-ok-c.field-0 (Some c.in-Some.c) c.in-Some.is c.in-ok-c.ensures
+    told (g.S.Store.frame s) (g.S.Store.sets s c.args.i) c.args.i c.loop-c.from (g.S.Store.sound s) c.in_ok-c.field-0 (Some c.in-Some.c) c.in-Some.is c.in_ok-c.ensures
 
-pub overflow-add-from : goal.overflow-add-from
-overflow-add-from g c =
-    let t = step g (goal.at.overflow-add-from g c).In-Some in
+pub overflow_add-from : goal.overflow_add-from
+overflow_add-from g c =
+    let t = step g (goal.at.overflow_add-from g c).In-Some in
     let below = g.S.Store.coded c.args.store.now c.args.i c.in-Some.c t.least.1 in
     omega (arith, t.most)
 
