@@ -10,7 +10,7 @@ use Rattle.bench.proofs.bench.Bench.judge.Goals as goal
 pub returns-in-Ok : goal.returns-in-Ok
 returns-in-Ok g c =
     let b = c.args.self.now in
-    let d = c.evaluate-formula.new.self in
+    let d = c.evaluate_formula.new.self in
     let h = c.in-Ok.ensures in
     record {
       says = λ e. judged_says g.S.Store.frame g.S.Store.sets b d c.args.formula h.model e c.in-Ok.made h.answered;
@@ -20,7 +20,7 @@ returns-in-Ok g c =
 pub returns-in-Err : goal.returns-in-Err
 returns-in-Err g c =
     let b = c.args.self.now in
-    let d = c.evaluate-formula.new.self in
+    let d = c.evaluate_formula.new.self in
     let h = c.in-Err.ensures in
     record {
       says = λ e.

@@ -5,16 +5,16 @@ use Rattle.bench.specs.Ledger.{least_as}
 use Rattle.bench.proofs.Asking.{unset, found, least_passed}
 use Rattle.bench.proofs.bench.Bench.least.Goals as goal
 
-pub returns-in-err-set : goal.returns-in-err-set
-returns-in-err-set g c e h =
-    let p = err_from_is_err_and c.from-residual.result c.from-residual.ensures.1 in
+pub returns-in_err-set : goal.returns-in_err-set
+returns-in_err-set g c e h =
+    let p = err_from_is_err_and c.from_residual.result c.from_residual.ensures.1 in
     rw (p.1, p.2)
-    (unset g.S.Store.frame g.S.Store.sets c.args.self.now e h (call.Least c.args.state c.args.from) c.args.state refl refl c.in-err-set.field-0.0 c.in-err-set.ensures)
+    (unset g.S.Store.frame g.S.Store.sets c.args.self.now e h (call.Least c.args.state c.args.from) c.args.state refl refl c.in_err-set.field-0.0 c.in_err-set.ensures)
 
 pub returns : goal.returns
 returns g c e h =
     let b = c.args.self.now in
-    let set = c.in-ok-set.set in
-    found g.S.Store.frame g.S.Store.sets b e h c.args.state set c.in-ok-set.ensures (call.Least c.args.state c.args.from) (least_as c.least-in.result)
+    let set = c.in_ok-set.set in
+    found g.S.Store.frame g.S.Store.sets b e h c.args.state set c.in_ok-set.ensures (call.Least c.args.state c.args.from) (least_as c.least_in.result)
     (λ a k state is.
-    least_passed g.S.Store.frame g.S.Store.sets b a k c.args.state set state is c.args.from c.least-in.result c.least-in.ensures)
+    least_passed g.S.Store.frame g.S.Store.sets b a k c.args.state set state is c.args.from c.least_in.result c.least_in.ensures)
