@@ -11,13 +11,13 @@ loop-i-preserved g c =
     let i = c.loop-i.i in
     let b = c.args.bench.now in
     let d = c.loop-i.bench in
-    let f = c.answer-at.new.bench in
+    let f = c.answer_at.new.bench in
     let cs = c.args.calls.now in
     let got = c.loop-i.answers in
-    let new = c.answer-at.new.answers in
+    let new = c.answer_at.new.answers in
     let room : i < length got = omega arith in (
-      ran_step g.S.Store.frame g.S.Store.sets b d f cs got new i room c.answer-at.ensures c.loop-i.invariant.0,
-      behind_step g.S.Store.frame g.S.Store.sets b d f cs got new i room c.answer-at.ensures c.args.answers.now c.loop-i.invariant.1,
+      ran_step g.S.Store.frame g.S.Store.sets b d f cs got new i room c.answer_at.ensures c.loop-i.invariant.0,
+      behind_step g.S.Store.frame g.S.Store.sets b d f cs got new i room c.answer_at.ensures c.args.answers.now c.loop-i.invariant.1,
     )
 
 pub returns : goal.returns

@@ -7,7 +7,7 @@ use Rattle.report.proofs.calls.report.Goals as goal
 
 pub returns-then-not-counted : goal.returns-then-not-counted
 returns-then-not-counted c =
-    let h = c.lay-report-counted.ensures in
+    let h = c.lay_report-counted.ensures in
     record {
       bytes = h.bytes;
       report = h.holds;
@@ -19,13 +19,13 @@ pub returns : goal.returns
 returns c =
     let text = c.args.text.now in
     let out = c.args.out.now in
-    let h = c.lay-report-counted.ensures in
-    let k = c.lay-report-written.ensures in
+    let h = c.lay_report-counted.ensures in
+    let k = c.lay_report-written.ensures in
     let P : ℕ → Type 0 = λ size. ReportOf text size k.bytes in
-    let report = subst P c.lay-report-counted.auto.store k.holds in
+    let report = subst P c.lay_report-counted.auto.store k.holds in
     let same : h.bytes ≡ k.bytes = one_report text (length c.args.store.now) h.bytes k.bytes h.holds report in
     let low : length k.bytes ≤ length out = omega (arith, ap length same, fits_means h.bytes (length out) _ _ _ h.lays (not-false _ c.if-not-counted.false)) in
-    let whole = laid_whole k.bytes (length out) c.lay-report-written.result out c.lay-report-written.new.out k.lays low refl in
+    let whole = laid_whole k.bytes (length out) c.lay_report-written.result out c.lay_report-written.new.out k.lays low refl in
     record {
       bytes = k.bytes;
       report = report;

@@ -16,11 +16,11 @@ use Rattle.report.proofs.codes.put_codes.Goals.{In-Some}
 step : (g : given.Over) (c : In-Some g) → Told (g.S.Store.frame c.args.store.now) (g.S.Store.sets c.args.store.now c.args.set) c.args.set c.loop-c.from (Some c.in-Some.c)
 step g c =
     let s = c.args.store.now in
-    told (g.S.Store.frame s) (g.S.Store.sets s c.args.set) c.args.set c.loop-c.from (g.S.Store.sound s) c.in-ok-c.field-0 (Some c.in-Some.c) c.in-Some.is c.in-ok-c.ensures
+    told (g.S.Store.frame s) (g.S.Store.sets s c.args.set) c.args.set c.loop-c.from (g.S.Store.sound s) c.in_ok-c.field-0 (Some c.in-Some.c) c.in-Some.is c.in_ok-c.ensures
 
-pub overflow-add-from : goal.overflow-add-from
-overflow-add-from g c =
-    let h = step g (goal.at.overflow-add-from g c).In-Some in
+pub overflow_add-from : goal.overflow_add-from
+overflow_add-from g c =
+    let h = step g (goal.at.overflow_add-from g c).In-Some in
     let most = h.most in
     let below = g.S.Store.coded c.args.store.now c.args.set c.in-Some.c h.least.1 in
     omega arith
@@ -42,7 +42,7 @@ loop-c-preserved g c =
     let cs = below m c.loop-c.from in (
       omega arith,
       lays_same _ _ _ _ _ _ (flat_map_more text [] cs c.in-Some.c ∙ ap (flat_map text) (sym (below_step m c.loop-c.from c.in-Some.c h.0 h.1 h.2)))
-          (lays_then c.args.mark c.args.out.now (flat_map text cs) c.loop-c.behind c.loop-c.out (text c.in-Some.c) c.put-line-behind.result c.put-line-behind.new.out c.loop-c.invariant.1 c.put-line-behind.ensures),
+          (lays_then c.args.mark c.args.out.now (flat_map text cs) c.loop-c.behind c.loop-c.out (text c.in-Some.c) c.put_line-behind.result c.put_line-behind.new.out c.loop-c.invariant.1 c.put_line-behind.ensures),
     )
 
 pub returns : goal.returns
@@ -50,6 +50,6 @@ returns g c =
     let s = c.args.store.now in
     let f = g.S.Store.frame s in
     let m = g.S.Store.sets s c.args.set in
-    let t = told f m c.args.set c.loop-c.from (g.S.Store.sound s) c.in-ok-c.field-0 None c.in-default.is c.in-ok-c.ensures in
+    let t = told f m c.args.set c.loop-c.from (g.S.Store.sound s) c.in_ok-c.field-0 None c.in_default.is c.in_ok-c.ensures in
     let text : ℕ → List ℕ = code_line (map name_bytes c.args.actions.now) (variable_names c.args.formula.now) in
     lays_same _ _ _ _ _ _ (ap (flat_map text) (sym (below_skip m c.loop-c.from (frame_codes f) t.low (λ d low _. t.least d low)))) c.loop-c.invariant.1

@@ -20,12 +20,12 @@ returns g c =
     let n = frame_codes f in
     let m = g.S.Store.sets s c.args.set in
     let u = g.S.Store.sets s 0 in
-    let held = (ok_answers c.in-ok-held.held (λ k. k ≡ number m n) (one_set f c.args.set) c.in-ok-held.ensures).1 ∙ sym (length_below m n) in
-    let all = (ok_answers c.in-ok-all.all (λ k. k ≡ number u n) (one_set f 0) c.in-ok-all.ensures).1 ∙ sym (length_below u n) in
+    let held = (ok_answers c.in_ok-held.held (λ k. k ≡ number m n) (one_set f c.args.set) c.in_ok-held.ensures).1 ∙ sym (length_below m n) in
+    let all = (ok_answers c.in_ok-all.all (λ k. k ≡ number u n) (one_set f 0) c.in_ok-all.ensures).1 ∙ sym (length_below u n) in
     let text : ℕ → List ℕ = code_line (map name_bytes c.args.actions.now) (variable_names c.args.formula.now) in
-    cases_to c.put-codes.result _ _
+    cases_to c.put_codes.result _ _
     (λ k lays.
-    lays_then c.args.mark c.args.out.now (heading (length (below m n)) (length (below u n)) c.args.rounds) c.put-heading-behind.result c.put-heading-behind.new.out (flat_map text (below m n)) k c.put-codes.new.out
-    (lays_same _ _ _ _ _ _ (ap (λ h. heading h c.in-ok-all.all c.args.rounds) held ∙ ap (λ a. heading (length (below m n)) a c.args.rounds) all) c.put-heading-behind.ensures)
+    lays_then c.args.mark c.args.out.now (heading (length (below m n)) (length (below u n)) c.args.rounds) c.put_heading-behind.result c.put_heading-behind.new.out (flat_map text (below m n)) k c.put_codes.new.out
+    (lays_same _ _ _ _ _ _ (ap (λ h. heading h c.in_ok-all.all c.args.rounds) held ∙ ap (λ a. heading (length (below m n)) a c.args.rounds) all) c.put_heading-behind.ensures)
     lays)
-    c.put-codes.ensures
+    c.put_codes.ensures

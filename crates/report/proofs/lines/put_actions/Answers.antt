@@ -23,9 +23,9 @@ loop-a-preserved c =
           let more = passing_yes test names a (eq-eqb (c.args.code / 2 ^ (c.args.position + a) % 2) 1 w.if-code-position-eq1.true) in
           let here = get_or-map name_bytes xs a _ [] c.loop-a-test.true in (
             lays_same m o _ _ _ _ (ap spaced (sym more))
-                (lays_to m o _ w.put-name-behind.result w.put-name-behind.new.out _ _ w.behind-is w.out-is
-                (spaced_lays m o ws c.loop-a.behind c.loop-a.out c.loop-a.first w.put-gap-behind.result w.put-gap-behind.new.out (get_or names a []) w.put-name-behind.result w.put-name-behind.new.out
-                c.loop-a.invariant.0 c.loop-a.invariant.1 w.put-gap-behind.ensures (lays_same _ _ _ _ _ _ (sym here) w.put-name-behind.ensures))),
+                (lays_to m o _ w.put_name-behind.result w.put_name-behind.new.out _ _ w.behind-is w.out-is
+                (spaced_lays m o ws c.loop-a.behind c.loop-a.out c.loop-a.first w.put_gap-behind.result w.put_gap-behind.new.out (get_or names a []) w.put_name-behind.result w.put_name-behind.new.out
+                c.loop-a.invariant.0 c.loop-a.invariant.1 w.put_gap-behind.ensures (lays_same _ _ _ _ _ _ (sym here) w.put_name-behind.ensures))),
             w.first-is ∙ sym (none_push ws (get_or names a [])) ∙ ap none (sym more),
           )
       | else-code-position-eq1 w ↦

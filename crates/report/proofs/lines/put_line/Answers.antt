@@ -19,6 +19,6 @@ returns c =
     let text : Lays m o (line names vs code) c.if-variables-eq0.behind c.if-variables-eq0.out =
     elim c.if-variables-eq0.branch [
       | then-variables-eq0 w ↦ lays_to m o _ _ _ _ _ w.behind-is w.out-is (lays_same _ _ _ _ _ _ (line_none names vs code (let zero = w.if-variables-eq0.true in omega arith)) w.put-behind.ensures)
-      | else-variables-eq0 w ↦ lays_to m o _ _ _ _ _ w.behind-is w.out-is (lays_same _ _ _ _ _ _ (line_some names vs code v.variables long (let far = w.if-variables-eq0.false in omega arith)) w.put-variables-behind.ensures)
+      | else-variables-eq0 w ↦ lays_to m o _ _ _ _ _ w.behind-is w.out-is (lays_same _ _ _ _ _ _ (line_some names vs code v.variables long (let far = w.if-variables-eq0.false in omega arith)) w.put_variables-behind.ensures)
     ] in
     lays_then m o _ c.if-variables-eq0.behind c.if-variables-eq0.out line_end c.put.result c.put.new.out text c.put.ensures

@@ -9,4 +9,4 @@ pub returns : goal.returns
 returns c =
     let long : length c.args.name.now.bytes ≡ 8 = omega arith in
     let short : take c.min-len.result c.args.name.now.bytes ≡ name_bytes c.args.name.now = take_min _ _ _ long c.min-len.ensures in
-    lays_same _ _ _ _ _ _ short (simp sub-zero at c.put-bytes.ensures)
+    lays_same _ _ _ _ _ _ short (simp sub-zero at c.put_bytes.ensures)

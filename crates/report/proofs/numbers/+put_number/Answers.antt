@@ -12,4 +12,4 @@ returns t c =
     let n = c.args.n in
     let small : n < 2 ^ 64 = omega arith in
     lays_same _ _ _ _ _ _ (sym (decimal_step n c.if-n-lt10.false small))
-    (lays_then c.args.mark c.args.out.now (decimal (n / 10)) c.put-number-behind.result c.put-number-behind.new.out ((48 + n % 10) ∷ []) c.put-2.result c.put-2.new.out c.put-number-behind.ensures c.put-2.ensures)
+    (lays_then c.args.mark c.args.out.now (decimal (n / 10)) c.put_number-behind.result c.put_number-behind.new.out ((48 + n % 10) ∷ []) c.put-2.result c.put-2.new.out c.put_number-behind.ensures c.put-2.ensures)

@@ -16,8 +16,8 @@ loop-first-preserved c =
     let word = c.in-Some.ensures in (
       told.moved.1,
       λ d a keeps.
-          let P : ℕ → Type 0 = λ size. LaysSome (λ bytes. Told t size d at bytes c.in-Ok.laid.next) n o c.in-Ok.laid.mark c.lay-sheet.new.out in
-          so_far_more t (length c.args.store.now) d c.args.from c.args.mark c.args.out.now at c.in-Ok.laid.next n o c.in-Ok.laid.mark c.lay-sheet.new.out
+          let P : ℕ → Type 0 = λ size. LaysSome (λ bytes. Told t size d at bytes c.in-Ok.laid.next) n o c.in-Ok.laid.mark c.lay_sheet.new.out in
+          so_far_more t (length c.args.store.now) d c.args.from c.args.mark c.args.out.now at c.in-Ok.laid.next n o c.in-Ok.laid.mark c.lay_sheet.new.out
           (word_not_ends t at c.in-Some.first word.0 word.1) (c.loop-first.invariant.1 d a keeps) (subst P c.loop-first.auto.store (told.laid d a keeps)),
     )
 
@@ -32,9 +32,9 @@ returns-in-Err c d a keeps =
     let laid = c.in-Err.ensures.laid d a keeps in
     let P : ℕ → Type 0 = λ size. SheetStops t size d at refused.number refused.at in
     let same = laid.1 in
-    so_far_stops t (length c.args.store.now) d c.args.from c.args.mark c.args.out.now at n o refused.number refused.at c.put-refusal.result c.put-refusal.new.out
-    (word_not_ends t at c.in-Some.first word.0 word.1) (c.loop-first.invariant.1 d a keeps) (subst P c.loop-first.auto.store laid.0) (lays_from n o _ c.put-refusal.result c.put-refusal.new.out c.lay-sheet.new.out same c.put-refusal.ensures)
+    so_far_stops t (length c.args.store.now) d c.args.from c.args.mark c.args.out.now at n o refused.number refused.at c.put_refusal.result c.put_refusal.new.out
+    (word_not_ends t at c.in-Some.first word.0 word.1) (c.loop-first.invariant.1 d a keeps) (subst P c.loop-first.auto.store laid.0) (lays_from n o _ c.put_refusal.result c.put_refusal.new.out c.lay_sheet.new.out same c.put_refusal.ensures)
 
 pub returns : goal.returns
 returns c d a keeps =
-    so_far_ends c.args.text.now (length c.args.store.now) d c.args.from c.args.mark c.args.out.now c.loop-first.at c.loop-first.behind c.loop-first.out c.in-default.ensures (c.loop-first.invariant.1 d a keeps)
+    so_far_ends c.args.text.now (length c.args.store.now) d c.args.from c.args.mark c.args.out.now c.loop-first.at c.loop-first.behind c.loop-first.out c.in_default.ensures (c.loop-first.invariant.1 d a keeps)

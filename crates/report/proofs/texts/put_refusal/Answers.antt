@@ -3,6 +3,6 @@ use Rattle.report.proofs.texts.put_refusal.Goals as goal
 
 pub returns : goal.returns
 returns c =
-    lays_then _ _ _ _ _ _ _ _ c.put-bytes-first.ensures
-    (lays_then _ _ _ _ _ _ _ _ c.put-number-second.ensures
-    (lays_then _ _ _ _ _ _ _ _ c.put-bytes-third.ensures (lays_then _ _ _ _ _ _ _ _ c.put-number-fourth.ensures c.put.ensures)))
+    lays_then _ _ _ _ _ _ _ _ c.put_bytes-first.ensures
+    (lays_then _ _ _ _ _ _ _ _ c.put_number-second.ensures
+    (lays_then _ _ _ _ _ _ _ _ c.put_bytes-third.ensures (lays_then _ _ _ _ _ _ _ _ c.put_number-fourth.ensures c.put.ensures)))
