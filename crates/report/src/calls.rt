@@ -39,9 +39,8 @@ pub fn printed(text: &[u8], store: &mut [u8], out: &mut [u8]) -> usize
     }
 }
 
-// The report for a caller in C: a slice is a pointer and a length.
-#[unsafe(no_mangle)]
-pub extern "C" fn arcsyn_report(text: &[u8], store: &mut [u8], out: &mut [u8]) -> i64
+// The report with one number for its answer, as a caller in C takes it (crate report_c).
+pub fn arcsyn_report(text: &[u8], store: &mut [u8], out: &mut [u8]) -> i64
     ensures { Called text.now (length store.old) out.old result out.new }
 {
     match report(text, store, out) {
