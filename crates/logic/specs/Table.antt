@@ -10,7 +10,7 @@
 --
 -- A set of actions is a test on their numbers, written χ. Assumes nothing.
 use Rattle.std.specs.Prelude.{◌≡◌, ℕ, ◌<◌, Bool, true, ◌⊎◌, List, [], ◌∷◌}
-use Rattle.std.specs.List.{AllByRecursion as All}
+use Rattle.std.specs.List.{AllByRecursion}
 
 pub record Arc : Type 0 where
   pub from : ℕ
@@ -31,7 +31,7 @@ pub record Fits (states actions : ℕ) (e : Arc) : Type 0 where
   pub to_inside : e.to < states
 
 abbrev pub Sound : Table → Type 0
-Sound M = All (Fits M.states M.actions) M.arcs
+Sound M = AllByRecursion (Fits M.states M.actions) M.arcs
 
 pub record Leads (e : Arc) (χ : ℕ → Bool) (s t : ℕ) : Type 0 where
   pub leaves : e.from ≡ s

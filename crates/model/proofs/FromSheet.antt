@@ -1,6 +1,6 @@
 -- The words of an admissible content are walked along: each is due where it stands, and fits.
 use Rattle.std.proofs.Common.{◌≡◌, ℕ, ◌<◌, true, ◌⊎◌, List, [], ◌∷◌, ◌++◌, map, length, get_or, Some, sym, ap, ◌∙◌, subst, ⊎_elim, append_assoc}
-use Rattle.std.specs.List.{ContainsAt as Has, flat_map, AllByRecursion as All}
+use Rattle.std.specs.List.{ContainsAt as Has, flat_map, AllByRecursion}
 use Rattle.std.proofs.lemmas.List.{append-nil}
 use Rattle.logic.specs.Table.{Arc, Fits}
 use Rattle.words.specs.declared.Letters.TheVariants.{Lower}
@@ -31,7 +31,7 @@ module _ (text : List ℕ) where
       subst (λ v. named Lower v ≡ true → (Taken c k v → ⊥) → Walks model_rules text (at (name k m) c) p (at (due_names k m) (with_names k c (names_of c k ++ v ∷ []))) q) x.says
       (λ plain free. name_goes text p c x.start q x.stands x.clean k m plain free)
 
-  names_walk : (k : Names) (c : Content) (us ws : List (List ℕ)) (p q : ℕ) → Spells text p (map word ws) q → All (λ w. named Lower w ≡ true) ws → All (λ w. Kept k w → ⊥) ws → Once (us ++ ws) → Walks model_rules text (at (due_names k (length ws)) (with_names k c us)) p (at (count (behind k)) (with_names k c (us ++ ws))) q
+  names_walk : (k : Names) (c : Content) (us ws : List (List ℕ)) (p q : ℕ) → Spells text p (map word ws) q → AllByRecursion (λ w. named Lower w ≡ true) ws → AllByRecursion (λ w. Kept k w → ⊥) ws → Once (us ++ ws) → Walks model_rules text (at (due_names k (length ws)) (with_names k c us)) p (at (count (behind k)) (with_names k c (us ++ ws))) q
   names_walk k c us [] p q h _ _ _ =
       subst (λ v. Walks model_rules text (at (count (behind k)) (with_names k c us)) p (at (count (behind k)) (with_names k c v)) q) (sym (append-nil us))
       (subst (λ m. Walks model_rules text (at (count (behind k)) (with_names k c us)) p (at (count (behind k)) (with_names k c us)) m) h (walks_none model_rules text (at (count (behind k)) (with_names k c us)) p))
@@ -50,7 +50,7 @@ module _ (text : List ℕ) where
       (names_walk k c [] ws h.0 q h.2 given.plain given.free given.once)
 
   module _ (c : Content) (once_states : Once c.states) where
-    labels_walk : Once c.properties → (ms ls : List Label) (p q : ℕ) → Spells text p (flat_map (label_items c) ls) q → All (λ l. (l.state < length c.states) × (l.property < length c.properties)) ls → Once (ms ++ ls) → Walks model_rules text (at (due_labels (length ls)) (with_labels c ms)) p (at (count arcs) (with_labels c (ms ++ ls))) q
+    labels_walk : Once c.properties → (ms ls : List Label) (p q : ℕ) → Spells text p (flat_map (label_items c) ls) q → AllByRecursion (λ l. (l.state < length c.states) × (l.property < length c.properties)) ls → Once (ms ++ ls) → Walks model_rules text (at (due_labels (length ls)) (with_labels c ms)) p (at (count arcs) (with_labels c (ms ++ ls))) q
     labels_walk once_properties ms [] p q h _ _ =
         subst (λ v. Walks model_rules text (at (count arcs) (with_labels c ms)) p (at (count arcs) (with_labels c v)) q) (sym (append-nil ms))
         (subst (λ m. Walks model_rules text (at (count arcs) (with_labels c ms)) p (at (count arcs) (with_labels c ms)) m) h (walks_none model_rules text (at (count arcs) (with_labels c ms)) p))
@@ -66,7 +66,7 @@ module _ (text : List ℕ) where
         (walks_then model_rules text (at (label_property n l.state) d) h.0 (at (due_labels n) (with_labels c (ms ++ l ∷ []))) h.2.0 (at (count arcs) (with_labels c (ms ++ l ∷ ls))) q two
         (subst (λ xs. Walks model_rules text (at (due_labels n) (with_labels c (ms ++ l ∷ []))) h.2.0 (at (count arcs) (with_labels c xs)) q) (append_assoc ms (l ∷ []) ls) rest))
 
-    arcs_walk : Once c.actions → (ds es : List Arc) (p q : ℕ) → Spells text p (flat_map (arc_items c) es) q → All (Fits (length c.states) (length c.actions)) es → Once (ds ++ es) → Walks model_rules text (at (due_arcs (length es)) (with_arcs c ds)) p (at nothing (with_arcs c (ds ++ es))) q
+    arcs_walk : Once c.actions → (ds es : List Arc) (p q : ℕ) → Spells text p (flat_map (arc_items c) es) q → AllByRecursion (Fits (length c.states) (length c.actions)) es → Once (ds ++ es) → Walks model_rules text (at (due_arcs (length es)) (with_arcs c ds)) p (at nothing (with_arcs c (ds ++ es))) q
     arcs_walk once_actions ds [] p q h _ _ =
         subst (λ v. Walks model_rules text (at nothing (with_arcs c ds)) p (at nothing (with_arcs c v)) q) (sym (append-nil ds))
         (subst (λ m. Walks model_rules text (at nothing (with_arcs c ds)) p (at nothing (with_arcs c ds)) m) h (walks_none model_rules text (at nothing (with_arcs c ds)) p))

@@ -1,6 +1,6 @@
 -- What a value of a content gives back: its names and its table; and in every table the arcs stay inside.
 use Rattle.std.proofs.Common.{◌≡◌, ℕ, ◌-◌, ◌<◌, ◌≤◌, min, true, false, ltb, List, [], ◌∷◌, map, length, get_or, take, filter, sym, refl, ap, ◌∙◌, ⊎_elim, arith}
-use Rattle.std.specs.List.{ContainsAt as Has, AllByRecursion as All}
+use Rattle.std.specs.List.{ContainsAt as Has, AllByRecursion}
 use Rattle.std.proofs.ByRecursion.{all-has, All-weaker, kept_by_passes}
 use Rattle.std.proofs.lemmas.List.{length-map, get_or_past}
 use Rattle.std.proofs.lemmas.Bool.{cases_lt, cases_Bool, and_parts, and_from, lt-ltb, ltb-true, cond-true}
@@ -18,10 +18,10 @@ use Rattle.model.proofs.Cells.{take_padded}
 use Rattle.model.proofs.Members.{name_short}
 use Rattle.model.proofs.Rows.{rows_cell, rows_long, rows_width, labelled_decides}
 
-names_back : (n : ℕ) (ws : List (List ℕ)) → All (λ w. named Lower w ≡ true) ws → map name_bytes (take (length ws) (padded n blank_name (map name_from ws))) ≡ ws
+names_back : (n : ℕ) (ws : List (List ℕ)) → AllByRecursion (λ w. named Lower w ≡ true) ws → map name_bytes (take (length ws) (padded n blank_name (map name_from ws))) ≡ ws
 names_back n ws plain = ap (map name_bytes) (take_padded n blank_name (map name_from ws) (length ws) (length-map ws name_from)) ∙ each ws plain
   where
-    each : (vs : List (List ℕ)) → All (λ w. named Lower w ≡ true) vs → map name_bytes (map name_from vs) ≡ vs
+    each : (vs : List (List ℕ)) → AllByRecursion (λ w. named Lower w ≡ true) vs → map name_bytes (map name_from vs) ≡ vs
     each [] h = refl
     each (v ∷ vs) h = λ i. kept_whole v (name_short v h.0) i ∷ each vs h.1 i
 
@@ -29,7 +29,7 @@ arcs_same : (es : List logic.Arc) → map single (map arc_of es) ≡ es
 arcs_same [] = refl
 arcs_same (e ∷ es) = ap (λ ds. e ∷ ds) (arcs_same es)
 
-kept_all : (states actions : ℕ) (es : List logic.Arc) → All (Fits states actions) es → filter (inside states actions) es ≡ es
+kept_all : (states actions : ℕ) (es : List logic.Arc) → AllByRecursion (Fits states actions) es → filter (inside states actions) es ≡ es
 kept_all states actions [] h = refl
 kept_all states actions (e ∷ es) h =
     let f = h.0 in

@@ -1,6 +1,6 @@
 -- What the words of a sheet have said so far, at each point of a walk, and how one more word adds to it.
 use Rattle.std.proofs.Common.{◌≡◌, ℕ, zero, suc, ◌+◌, ◌<◌, List, [], ◌∷◌, ◌++◌, map, length, get_or, Some, None, Option, sym, refl, ap, ◌∙◌, subst, arith}
-use Rattle.std.specs.List.{flat_map, AllByRecursion as All}
+use Rattle.std.specs.List.{flat_map, AllByRecursion}
 use Rattle.std.proofs.lemmas.List.{length_push, map_push, flat_map_more}
 use Rattle.logic.specs.Table.{Arc, Fits}
 use Rattle.model.specs.declared.names.Names.{Names}
@@ -69,9 +69,9 @@ waits nothing c = Unit {0}
 
 pub record Sound (c : Content) : Type 0 where
   pub given : (k : Names) → Given k (names_of c k)
-  pub labels_inside : All (λ l. (l.state < length c.states) × (l.property < length c.properties)) c.labels
+  pub labels_inside : AllByRecursion (λ l. (l.state < length c.states) × (l.property < length c.properties)) c.labels
   pub labels_once : Once c.labels
-  pub arcs_inside : All (Fits (length c.states) (length c.actions)) c.arcs
+  pub arcs_inside : AllByRecursion (Fits (length c.states) (length c.actions)) c.arcs
   pub arcs_once : Once c.arcs
 
 pub record Told (text : List ℕ) (s : Point) (p : ℕ) : Type 0 where
@@ -153,8 +153,8 @@ same_given c c' s a p all States = subst (Given States) s (all States)
 same_given c c' s a p all Actions = subst (Given Actions) a (all Actions)
 same_given c c' s a p all Properties = subst (Given Properties) p (all Properties)
 
-pub all_none : {X : Type 0} (P : X → Type 0) (xs : List X) → xs ≡ [] → All P xs
-all_none P xs e = subst (All P) (sym e) tt
+pub all_none : {X : Type 0} (P : X → Type 0) (xs : List X) → xs ≡ [] → AllByRecursion P xs
+all_none P xs e = subst (AllByRecursion P) (sym e) tt
 
 pub once_none : {X : Type 0} (xs : List X) → xs ≡ [] → Once xs
 once_none xs e = subst Once (sym e) tt

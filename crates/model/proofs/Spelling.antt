@@ -1,6 +1,6 @@
 -- Words that say items one behind the other.
 use Rattle.std.proofs.Common.{◌≡◌, ℕ, ◌≤◌, Bool, true, false, cond, List, [], ◌∷◌, ◌++◌, Some, None, Option, sym, refl, subst, arith}
-use Rattle.std.specs.List.{AllByRecursion as All}
+use Rattle.std.specs.List.{AllByRecursion}
 use Rattle.std.proofs.lemmas.Bool.Decides.{nat_tests}
 use Rattle.words.specs.Words.{bytes_of, decimal, limited}
 use Rattle.model.specs.Content.{Section, fewest, most}
@@ -21,7 +21,7 @@ module _ (text : List ℕ) where
       (rest.0, (h.0, h.1, rest.1), rest.2)
 
   -- some word says each item
-  pub spells_says : (xs : List Item) (p q : ℕ) → Spells text p xs q → All (λ i. (w : List ℕ) × Says i w) xs
+  pub spells_says : (xs : List Item) (p q : ℕ) → Spells text p xs q → AllByRecursion (λ i. (w : List ℕ) × Says i w) xs
   spells_says [] p q h = tt
   spells_says (x ∷ xs) p q h = ((bytes_of text h.1.start h.0, h.1.says), spells_says xs h.0 q h.2)
 

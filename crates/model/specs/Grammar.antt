@@ -11,7 +11,7 @@
 --
 -- Assumes nothing.
 use Rattle.std.specs.Prelude.{◌≡◌, ℕ, ◌<◌, ◌≤◌, true, List, [], ◌∷◌, ◌++◌, map, length, Some, slice_index_or}
-use Rattle.std.specs.List.{ContainsAt as Has, flat_map, AllByRecursion as All}
+use Rattle.std.specs.List.{ContainsAt as Has, flat_map, AllByRecursion}
 use Rattle.logic.specs.Table.{Arc, Fits}
 use Rattle.words.specs.declared.Letters.TheVariants.{Lower}
 use Rattle.words.specs.Faults.{text_limit}
@@ -64,9 +64,9 @@ Once [] = Unit {0}
 Once (x ∷ xs) = (Has xs x → ⊥) × Once xs
 
 pub record Given (k : Names) (ws : List (List ℕ)) : Type 0 where
-  pub plain : All (λ w. named Lower w ≡ true) ws
+  pub plain : AllByRecursion (λ w. named Lower w ≡ true) ws
   pub once : Once ws
-  pub free : All (λ w. Kept k w → ⊥) ws
+  pub free : AllByRecursion (λ w. Kept k w → ⊥) ws
 
 abbrev pub Within : Section → ℕ → Type 0
 Within k n = (fewest k ≤ n) × (n ≤ most k)
@@ -76,9 +76,9 @@ pub record Admissible (c : Content) : Type 0 where
   pub few_labels : Within labels (length c.labels)
   pub few_arcs : Within arcs (length c.arcs)
   pub given : (k : Names) → Given k (names_of c k)
-  pub labels_inside : All (λ l. (l.state < length c.states) × (l.property < length c.properties)) c.labels
+  pub labels_inside : AllByRecursion (λ l. (l.state < length c.states) × (l.property < length c.properties)) c.labels
   pub labels_once : Once c.labels
-  pub arcs_inside : All (Fits (length c.states) (length c.actions)) c.arcs
+  pub arcs_inside : AllByRecursion (Fits (length c.states) (length c.actions)) c.arcs
   pub arcs_once : Once c.arcs
 
 pub record ModelSheet (text : List ℕ) (c : Content) (end : ℕ) : Type 0 where

@@ -1,6 +1,6 @@
 -- A line says which code it names. Assumes nothing.
 use Rattle.std.proofs.Common.{◌≡◌, ℕ, zero, suc, ◌+◌, ◌*◌, ◌^◌, ◌<◌, ◌≤◌, Bool, true, false, cond, eqb, leb, ◌≢◌, List, [], ◌∷◌, ◌++◌, length, get_or, Some, None, codes, Option, sym, refl, ap, ◌∙◌, subst, ⊎_elim, mul-zero, arith}
-use Rattle.std.specs.List.{flat_map, prefix_len, AllByRecursion as All}
+use Rattle.std.specs.List.{flat_map, prefix_len, AllByRecursion}
 use Rattle.std.proofs.ByRecursion.{All-append, All-get_or, All-push}
 use Rattle.std.proofs.lemmas.List.{append_assoc, append-nil, append_cancel_left, append_cancel_right, same_from_push, length-append}
 use Rattle.std.proofs.lemmas.Bool.{cases_Bool, cases_lt, cond-true, cond-false, and_parts, ltb-true, eqb-true}
@@ -30,7 +30,7 @@ lines_name M U actions variables φ bytes h = record {
 
 -- the byte s is none of these
 Lacks : ℕ → List ℕ → Type 0
-Lacks s = All (λ b. b ≢ s)
+Lacks s = AllByRecursion (λ b. b ≢ s)
 
 heads : (x y : ℕ) (xs ys : List ℕ) → x ∷ xs ≡ y ∷ ys → (x ≡ y) × (xs ≡ ys)
 heads x y xs ys e = (cc, cc)
@@ -73,7 +73,7 @@ record Plain (w : List ℕ) : Type 0 where
 behind : List (List ℕ) → List ℕ
 behind ws = flat_map (λ v. 32 ∷ v) ws
 
-first_word : (w w' : List ℕ) (ws ws' : List (List ℕ)) → Lacks 32 w → Lacks 32 w' → All Plain ws → All Plain ws' → w ++ behind ws ≡ w' ++ behind ws' → (w ≡ w') × (ws ≡ ws')
+first_word : (w w' : List ℕ) (ws ws' : List (List ℕ)) → Lacks 32 w → Lacks 32 w' → AllByRecursion Plain ws → AllByRecursion Plain ws' → w ++ behind ws ≡ w' ++ behind ws' → (w ≡ w') × (ws ≡ ws')
 unfolding behind
 first_word w w' [] [] a b p q e = (sym (append-nil w) ∙ e ∙ append-nil w', refl)
 first_word w w' [] (v' ∷ vs') a b p q e = absurd (lacks_none 32 w w' (v' ++ behind vs') a (sym (append-nil w) ∙ e))
@@ -88,7 +88,7 @@ not_empty [] ys h e = omega arith
 not_empty (b ∷ bs) ys h e = let z : ◌≡◌ {A = ℕ} 0 1 = cc in omega arith
 
 -- plain words with one space between are cut in one way
-spaced_apart : (ws ws' : List (List ℕ)) → All Plain ws → All Plain ws' → spaced ws ≡ spaced ws' → ws ≡ ws'
+spaced_apart : (ws ws' : List (List ℕ)) → AllByRecursion Plain ws → AllByRecursion Plain ws' → spaced ws ≡ spaced ws' → ws ≡ ws'
 unfolding behind
 spaced_apart [] [] p q e = refl
 spaced_apart [] (w ∷ ws) p q e = absurd (not_empty w (behind ws) q.0.some e)
@@ -96,11 +96,11 @@ spaced_apart (w ∷ ws) [] p q e = absurd (not_empty w (behind ws) p.0.some (sym
 spaced_apart (w ∷ ws) (w' ∷ ws') p q e =
     let r = first_word w w' ws ws' p.0.unspaced q.0.unspaced p.1 q.1 e in λ i. r.0 i ∷ r.1 i
 
-module _ (names : List (List ℕ)) (plain : All Plain names) (apart : (i j : ℕ) → i < length names → j < length names → get_or names i [] ≡ get_or names j [] → i ≡ j) where
-  passing_plain : (t : ℕ → Bool) (n : ℕ) → n ≤ length names → All Plain (passing t names n)
+module _ (names : List (List ℕ)) (plain : AllByRecursion Plain names) (apart : (i j : ℕ) → i < length names → j < length names → get_or names i [] ≡ get_or names j [] → i ≡ j) where
+  passing_plain : (t : ℕ → Bool) (n : ℕ) → n ≤ length names → AllByRecursion Plain (passing t names n)
   passing_plain t zero low = tt
   passing_plain t (suc n) low =
-      let P : List (List ℕ) → Type 0 = All Plain in
+      let P : List (List ℕ) → Type 0 = AllByRecursion Plain in
       let rest = passing_plain t n (omega arith) in
       ⊎_elim
       (λ e. subst P (sym (cond-true (t n) (passing t names n ++ get_or names n [] ∷ []) (passing t names n) e)) (All-push Plain (passing t names n) (get_or names n []) rest (All-get_or Plain names n [] (omega arith) plain)))
@@ -110,23 +110,23 @@ module _ (names : List (List ℕ)) (plain : All Plain names) (apart : (i j : ℕ
   Earlier : ℕ → List ℕ → Type 0
   Earlier n w = (k : ℕ) × (k < n) × (w ≡ get_or names k [])
 
-  later : (n : ℕ) (ws : List (List ℕ)) → All (Earlier n) ws → All (Earlier (suc n)) ws
+  later : (n : ℕ) (ws : List (List ℕ)) → AllByRecursion (Earlier n) ws → AllByRecursion (Earlier (suc n)) ws
   unfolding Earlier
   later n [] h = tt
   later n (w ∷ ws) h = ((h.0.0, omega (arith, h.0.1), h.0.2), later n ws h.1)
 
-  passing_earlier : (t : ℕ → Bool) (n : ℕ) → All (Earlier n) (passing t names n)
+  passing_earlier : (t : ℕ → Bool) (n : ℕ) → AllByRecursion (Earlier n) (passing t names n)
   unfolding Earlier
   passing_earlier t zero = tt
   passing_earlier t (suc n) =
-      let P : List (List ℕ) → Type 0 = All (Earlier (suc n)) in
+      let P : List (List ℕ) → Type 0 = AllByRecursion (Earlier (suc n)) in
       let rest = later n (passing t names n) (passing_earlier t n) in
       ⊎_elim
       (λ e. subst P (sym (cond-true (t n) (passing t names n ++ get_or names n [] ∷ []) (passing t names n) e)) (All-push (Earlier (suc n)) (passing t names n) (get_or names n []) rest (n, omega arith, refl)))
       (λ e. subst P (sym (cond-false (t n) (passing t names n ++ get_or names n [] ∷ []) (passing t names n) e)) rest)
       (cases_Bool (t n))
 
-  last_earlier : (n : ℕ) (ws : List (List ℕ)) (w : List ℕ) → All (Earlier n) (ws ++ w ∷ []) → Earlier n w
+  last_earlier : (n : ℕ) (ws : List (List ℕ)) (w : List ℕ) → AllByRecursion (Earlier n) (ws ++ w ∷ []) → Earlier n w
   last_earlier n [] w h = h.0
   last_earlier n (v ∷ ws) w h = last_earlier n ws w h.1
 
@@ -134,7 +134,7 @@ module _ (names : List (List ℕ)) (plain : All Plain names) (apart : (i j : ℕ
   not_earlier : (t : ℕ → Bool) (n : ℕ) (ws : List (List ℕ)) → n < length names → ws ++ get_or names n [] ∷ [] ≡ passing t names n → ⊥
   unfolding Earlier
   not_earlier t n ws low e =
-      let P : List (List ℕ) → Type 0 = All (Earlier n) in
+      let P : List (List ℕ) → Type 0 = AllByRecursion (Earlier n) in
       let k = last_earlier n ws (get_or names n []) (subst P (sym e) (passing_earlier t n)) in
       let lower : k.0 < n = k.1 in
       let same : n ≡ k.0 = apart n k.0 low (omega arith) k.2 in
@@ -166,12 +166,12 @@ module _ (names : List (List ℕ)) (plain : All Plain names) (apart : (i j : ℕ
       (cases_Bool (u n)))
       (cases_Bool (t n))
 
-  lacks_brace : (ws : List (List ℕ)) → All Plain ws → Lacks 123 (behind ws)
+  lacks_brace : (ws : List (List ℕ)) → AllByRecursion Plain ws → Lacks 123 (behind ws)
   unfolding Lacks behind
   lacks_brace [] p = tt
   lacks_brace (w ∷ ws) p = All-append (λ b. b ≢ 123) (32 ∷ w) (behind ws) (λ e. let z : 32 ≡ 123 = e in omega arith, p.0.unbraced) (lacks_brace ws p.1)
 
-  body_lacks : (ws : List (List ℕ)) → All Plain ws → Lacks 123 (spaced ws ++ codes "}")
+  body_lacks : (ws : List (List ℕ)) → AllByRecursion Plain ws → Lacks 123 (spaced ws ++ codes "}")
   unfolding Lacks behind
   body_lacks [] p = (λ e. let z : 125 ≡ 123 = e in omega arith, tt)
   body_lacks (w ∷ ws) p =
@@ -216,7 +216,7 @@ module _ (names : List (List ℕ)) (plain : All Plain names) (apart : (i j : ℕ
       includes_same (length names) (length (v ∷ vs)) c d low high
       (λ y a ly la h. same y ly a la ∙ h) (λ y a ly la h. sym (same y ly a la) ∙ h)
 
-all_leading : (p : ℕ → Bool) (xs : List ℕ) → prefix_len p xs ≡ length xs → All (λ x. p x ≡ true) xs
+all_leading : (p : ℕ → Bool) (xs : List ℕ) → prefix_len p xs ≡ length xs → AllByRecursion (λ x. p x ≡ true) xs
 all_leading p [] e = tt
 all_leading p (x ∷ xs) e =
     ⊎_elim
@@ -224,7 +224,7 @@ all_leading p (x ∷ xs) e =
     (λ h. let off : cond (p x) (1 + prefix_len p xs) 0 ≡ 0 = cond-false (p x) (1 + prefix_len p xs) 0 h in absurd (omega arith))
     (cases_Bool (p x))
 
-tails_lack : (s : ℕ) → within LowerTail s ≡ false → (xs : List ℕ) → All (λ x. within LowerTail x ≡ true) xs → Lacks s xs
+tails_lack : (s : ℕ) → within LowerTail s ≡ false → (xs : List ℕ) → AllByRecursion (λ x. within LowerTail x ≡ true) xs → Lacks s xs
 unfolding Lacks
 tails_lack s off [] h = tt
 tails_lack s off (x ∷ xs) h = (λ e. let z : true ≡ false = sym h.0 ∙ ap (within LowerTail) e ∙ off in let o : ◌≡◌ {A = ℕ} 0 1 = cc in omega arith, tails_lack s off xs h.1)
@@ -236,7 +236,7 @@ named_plain w h =
     let all = all_leading (within LowerTail) w (eqb-true _ _ tail) in
     record { some = ltb-true 0 (length w) some.0; unspaced = tails_lack 32 refl w all; unbraced = tails_lack 123 refl w all }
 
-all_plain : (ws : List (List ℕ)) → All (λ w. named Lower w ≡ true) ws → All Plain ws
+all_plain : (ws : List (List ℕ)) → AllByRecursion (λ w. named Lower w ≡ true) ws → AllByRecursion Plain ws
 all_plain [] h = tt
 all_plain (w ∷ ws) h = (named_plain w h.0, all_plain ws h.1)
 
