@@ -3,7 +3,7 @@
 --   Held         what the store's sets hold along a list of calls: at each state exactly the codes under which the formula last
 --                accepted holds there, and no call alters any of them, except an accepted judge
 --   Law          all that is promised of a list of n calls on a bench just opened over the store `given`
---   AskedHolds  the ledger's answer to holds after the calls
+--   AskedHolds   the ledger's answer to holds after the calls
 --   Audited      the law of two benches with one table, and that they agree
 --
 -- frame and sets say of a store what it is over and which codes its sets have. Assumes nothing.

@@ -1,12 +1,12 @@
 -- Laws over the answers to a list of calls on a bench just opened.
 --
---   SameAnswers      the same call at two positions, with no accepted judge between, has the same answer
+--   SameAnswers       the same call at two positions, with no accepted judge between, has the same answer
 --   place             where a listing asks from: 0, then one past each answer
 --   Carried           a listing carried to its end: at ascending positions, whatever calls stand between, none of them an
 --                     accepted judge, the call asks from 0, then from one past each answer, until none; the answers are xs
---   ListingNames     a listing made with next names the codes of the universe under which the formula last accepted holds at
+--   ListingNames      a listing made with next names the codes of the universe under which the formula last accepted holds at
 --                     the state, each once, ascending
---   LeastLists       where that formula is in the existential part, a code of the universe is listed at the state exactly if
+--   LeastLists        where that formula is in the existential part, a code of the universe is listed at the state exactly if
 --                     it includes one that a listing made with least names there
 --   Agree             two benches with one table and the same formula last accepted answer holds alike, for each code of both
 --                     universes

@@ -4,7 +4,7 @@
 --   Quiet          none of the calls from position i up to before position j is an accepted judge
 --   LastAccepted   of the first n calls, a is the formula of the last accepted judge
 --   EntryAfter     the entry after the first n calls, from the entry e on: the formula last accepted, or e where no judge was
---   OneEntry      there is exactly one entry after the first n calls
+--   OneEntry       there is exactly one entry after the first n calls
 --   Told           each of the first n answers is what the ledger says to its call
 --
 -- Assumes nothing.

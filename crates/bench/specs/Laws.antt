@@ -1,7 +1,7 @@
 -- What is proved of the ledger. Each statement is the contract of a function of this crate.
 --
---   AnswersOne    the ledger says at most one answer to a call
---   EntriesOne    after a call there is exactly one entry
+--   AnswersOne     the ledger says at most one answer to a call
+--   EntriesOne     after a call there is exactly one entry
 --
 -- Assumes nothing.
 use Rattle.std.specs.Prelude.{◌≡◌}

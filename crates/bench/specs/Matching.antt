@@ -1,7 +1,7 @@
 -- How a bench backs the ledger's entry.
 --
---   bench_table     the table of the bench's model
---   state_set       the set that has what is listed at a state, or why there is none
+--   bench_table  the table of the bench's model
+--   state_set    the set that has what is listed at a state, or why there is none
 --   Backs        a formula has been judged, and the result set of each state has exactly the codes that are listed there
 --   Matches      the bench backs the entry: for none, nothing has been judged
 --   ByLedger     the answer of the bench to a call is what the ledger says to it, at whatever entry the bench matches

@@ -6,7 +6,6 @@ use Rattle.logic.specs.Formulas as logic
 use Rattle.words.specs.Words.{bytes_of}
 use Rattle.words.specs.Walks.{Step, Walk}
 use Rattle.words.proofs.Words.{never_both}
-use Rattle.formula.specs.declared.Alpha.{Alpha}
 use Rattle.formula.specs.declared.Alpha.TheVariants as kept
 use Rattle.formula.specs.declared.OnePart.{OnePart}
 use Rattle.formula.specs.declared.OnePart.TheVariants.{Ex, Eg, Ef, Ax, Ag, Af, Exw, Egw, Efw, Axw, Agw, Afw}

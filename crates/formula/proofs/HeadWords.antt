@@ -1,11 +1,10 @@
 -- A word that is read as a reserved word, a property, an action or a variable is spelled so.
-use Rattle.std.proofs.Common.{◌≡◌, ℕ, true, List, [], ◌∷◌, Some, None, codes, Option, sym, refl, ap, ◌∙◌, subst, inl, inr, arith}
+use Rattle.std.proofs.Common.{◌≡◌, ℕ, List, [], ◌∷◌, Some, None, codes, Option, sym, refl, ap, ◌∙◌, subst, inl, inr, arith}
 use Rattle.std.specs.Str.{bytes_eq}
 use Rattle.std.proofs.lemmas.Slice.Eq.{bytes_eq-Decides}
 use Rattle.std.proofs.lemmas.Bool.{cases_Bool, cond-true, cond-false}
 use Rattle.words.specs.Words.{lookup}
 use Rattle.formula.specs.declared.Node.TheVariants as nodes
-use Rattle.formula.specs.declared.heads.Temporal.{Temporal}
 use Rattle.formula.specs.declared.heads.Head.{Head}
 use Rattle.formula.specs.declared.heads.Head.TheVariants as heads
 use Rattle.formula.specs.declared.braces.BraceWord.TheVariants.{Close}

@@ -1,6 +1,6 @@
 -- A set of actions written out: the words behind `{` up to `}`.
 --
---   brace_word_of    what a word says between the braces: `}`, an action by its number, or nothing
+--   brace_word_of  what a word says between the braces: `}`, an action by its number, or nothing
 --   Within       an action is one of so many
 --   Braces       what has been read: inside, the set so far; closed, the whole set. A set of actions is a code: bit a for action a
 --   brace_rules  an action that is named already, or a `}` where no action was named, meets 10, any other word 7

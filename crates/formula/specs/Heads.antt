@@ -3,10 +3,10 @@
 --   spelled      how a reserved word is written
 --   among        the one of these reserved words that a word is, if any
 --   reserved_head_of the reserved word that a word is, if any
---   head_of       what a formula that begins with the word is: a reserved word, or else a property by its number
+--   head_of      what a formula that begins with the word is: a reserved word, or else a property by its number
 --
 -- Assumes nothing.
-use Rattle.std.specs.Prelude.{ℕ, true, cond, List, [], ◌∷◌, Some, None, codes, Option}
+use Rattle.std.specs.Prelude.{ℕ, cond, List, [], ◌∷◌, Some, None, codes, Option}
 use Rattle.std.specs.Str.{bytes_eq}
 use Rattle.words.specs.Words.{lookup}
 use Rattle.formula.specs.declared.OnePart.{OnePart}
@@ -15,7 +15,6 @@ use Rattle.formula.specs.declared.TwoParts.{TwoParts}
 use Rattle.formula.specs.declared.TwoParts.TheVariants.{Eu, Au, Euw, Auw}
 use Rattle.formula.specs.declared.Node.{Node}
 use Rattle.formula.specs.declared.Node.TheVariants.{True, Property, Not, Or, And, One, Two}
-use Rattle.formula.specs.declared.heads.Temporal.{Temporal}
 use Rattle.formula.specs.declared.heads.Temporal.TheVariants as temporal
 use Rattle.formula.specs.declared.heads.Head.{Head}
 use Rattle.formula.specs.declared.heads.Head.TheVariants as head

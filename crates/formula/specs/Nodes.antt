@@ -1,6 +1,6 @@
 -- The nodes of a formula: in prefix order, each before its parts.
 --
---   one_word, two_word, alpha_of   the logic's temporal words and what they speak over, as they are kept
+--   one_word, two_word, alpha_of  the logic's temporal words and what they speak over, as they are kept
 --   arity        how many parts a node has
 --   flat         the nodes of a formula
 --

@@ -1,7 +1,7 @@
 -- How a formula sheet is read: which word is due where, what each refuses, and what each adds to what has been read. The names
 -- of the actions and of the properties are given.
 --
---   alpha_word_of    what a word says where a temporal word wants to know what it speaks over: `{`, or a variable by its number
+--   alpha_word_of  what a word says where a temporal word wants to know what it speaks over: `{`, or a variable by its number
 --   Due          the word that is due: the count of variables; a variable's name, and how many more behind it; a formula, by the
 --                depths at which this one and those behind it stand; what a temporal word speaks over, and the depths of the
 --                formulas behind that; a word between its braces, the set so far. None where no formula is due any more.

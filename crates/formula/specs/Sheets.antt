@@ -4,12 +4,12 @@
 --   NamesStand   the names stand one after the other, each a plain one in capitals
 --   FormulaSheet the sheet stands at the front of the text and ends at a position: the count of its variables, their names, each
 --                once, and its formula, within the limits
---   formula_of    the value that a content is kept as: blank behind its counts
+--   formula_of   the value that a content is kept as: blank behind its counts
 --   SheetRead    what the answer of the reader says where it stores nothing
 --   Read         what the answer of the reader says, and what the place then holds
 --   Agree        the grammar and the rules say the same: a sheet stands at the front of a text exactly if the walk by the rules
 --                comes to its end with what it says
---   OneReading  a text has at most one reading;  NeverBoth  it has no reading and refusal at once;  OneRefusal  it has at
+--   OneReading   a text has at most one reading;  NeverBoth  it has no reading and refusal at once;  OneRefusal  it has at
 --                most one refusal
 --
 -- Assumes nothing.

@@ -8,7 +8,7 @@
 --   built        the formulas that nodes make: read from the last to the first, each takes its parts from those behind it
 --   covers       whether nodes are, in range, those of so many formulas one behind the other: each takes one of those that are
 --                due, and makes its parts due
---   meaning_of    what a value means, computed
+--   meaning_of   what a value means, computed
 --   Meanings     a value is whole by one formula, and what is computed is what it means and the only thing;  ReadWhole  what
 --                was read from a sheet is whole
 --

@@ -8,11 +8,11 @@
 --   display      the table;  safe  its property, as a formula;  Y, Z  two variables
 --   OneOf        a number is one of a list
 --   Lists        of all valuations of so many variables, those in the list are the listed ones
---   DisplayLists   what the display lists, formula by formula
+--   DisplayLists    what the display lists, formula by formula
 --   Takes        a formula takes so many rounds over all those valuations
---   DisplayRounds  how many rounds they take
+--   DisplayRounds   how many rounds they take
 --   Shows        what a formula lists at idle and how many rounds it takes, with one variable
---   DisplayWords   each further word
+--   DisplayWords    each further word
 --
 -- A code gives Y the action key by 1 and bus by 2, and Z key by 4 and bus by 8. Assumes nothing.
 use Rattle.std.specs.Prelude.{◌≡◌, ℕ, ◌⊎◌, ◌↔◌, List, [], ◌∷◌, ◌==◌}

@@ -6,7 +6,7 @@
 --
 --   ending       the table;  go  its action, written out
 --   Apart        one formula holds at `first`, and another does not
---   EndingsDiffer   each of the eight words at `first`
+--   EndingsDiffer    each of the eight words at `first`
 --
 -- Assumes nothing.
 use Rattle.std.specs.Prelude.{false, [], ◌∷◌}

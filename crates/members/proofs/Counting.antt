@@ -1,7 +1,7 @@
 -- Counting upward from one member to the next. Assumes nothing.
 use Rattle.std.proofs.Common.{◌≡◌, ℕ, zero, suc, ◌+◌, ◌<◌, ◌≤◌, Bool, true, false, List, [], ◌∷◌, length, get_or, sym, ap, ◌∙◌, ⊎_elim, add-one, arith}
 use Rattle.std.proofs.lemmas.Bool.{cond-true, cond-false, cond_both, cases_lt, cases_Bool}
-use Rattle.members.specs.Numbers.{number, Lists, NumberSays}
+use Rattle.members.specs.Numbers.{number, NumberSays}
 
 pub number_le : (m : ℕ → Bool) (n : ℕ) → number m n ≤ n
 number_le m zero = omega arith

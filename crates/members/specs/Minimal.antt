@@ -1,11 +1,11 @@
 -- Members that include no other member.
 --
---   IncludesByBits       to include a code is to have each of its bits below actions * variables
+--   IncludesByBits         to include a code is to have each of its bits below actions * variables
 --   IncludesNoOther        each member of m that c includes is c
 --   Minimal                c is a member and includes no other
 --   LeastMinimal           o is the smallest such member that is at least `from`, or none where there is none
---   LeastMinimalUnique    there is one such o
---   MinimalReached        every member includes one that includes no other
+--   LeastMinimalUnique     there is one such o
+--   MinimalReached         every member includes one that includes no other
 --
 -- Assumes nothing.
 use Rattle.std.specs.Prelude.{◌≡◌, ℕ, ◌*◌, ◌^◌, ◌<◌, ◌≤◌, Bool, true, Some, None, Option}

@@ -2,7 +2,7 @@
 --
 --   number         how many of the numbers below n are members of m
 --   Lists          cs has the members of m, each once, ascending
---   NumberSays    where every member is below n, that number is the length of any such list, and there is one
+--   NumberSays     where every member is below n, that number is the length of any such list, and there is one
 --
 -- Assumes nothing.
 use Rattle.std.specs.Prelude.{◌≡◌, ℕ, zero, suc, ◌+◌, ◌<◌, Bool, true, cond, List, length, slice_index}

@@ -2,7 +2,7 @@
 --
 --   ones             how many bits of a code are set
 --   Before           a comes before b
---   BeforeOrders    of two different codes exactly one comes before the other, none before itself, and it carries through
+--   BeforeOrders     of two different codes exactly one comes before the other, none before itself, and it carries through
 --
 -- Assumes nothing.
 use Rattle.std.specs.Prelude.{◌≡◌, ℕ, ◌<◌, ◌⊎◌, ◌≢◌}

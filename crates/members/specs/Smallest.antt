@@ -1,7 +1,7 @@
 -- The member that comes before every other.
 --
 --   Smallest           o is the member of m that comes before every other member, or none where m has no member
---   SmallestUnique    there is one such o
+--   SmallestUnique     there is one such o
 --   Earlier            r is the first of o, where there is one, and c
 --
 -- Assumes nothing.

@@ -1,5 +1,5 @@
 -- What a value of a content gives back: its names and its table; and in every table the arcs stay inside.
-use Rattle.std.proofs.Common.{◌≡◌, ℕ, ◌-◌, ◌<◌, ◌≤◌, min, true, false, ltb, List, [], ◌∷◌, map, length, get_or, take, filter, sym, refl, ap, ◌∙◌, ⊎_elim, arith}
+use Rattle.std.proofs.Common.{◌≡◌, ℕ, ◌<◌, ◌≤◌, min, true, false, ltb, List, [], ◌∷◌, map, length, get_or, take, filter, sym, refl, ap, ◌∙◌, ⊎_elim, arith}
 use Rattle.std.specs.List.{ContainsAt as Has, AllByRecursion}
 use Rattle.std.proofs.ByRecursion.{all-has, All-weaker, kept_by_passes}
 use Rattle.std.proofs.lemmas.List.{length-map, get_or_past}

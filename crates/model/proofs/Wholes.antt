@@ -14,7 +14,6 @@ use Rattle.model.specs.declared.names.Names.TheVariants.{States, Actions, Proper
 use Rattle.model.specs.declared.labels.Labels.{Labels}
 use Rattle.model.specs.declared.arcs.ArcList.{ArcList}
 use Rattle.model.specs.declared.sections.Sections.{Sections}
-use Rattle.model.specs.declared.table.Arc.{Arc}
 use Rattle.model.specs.Content.{Content, Label, names, labels, arcs}
 use Rattle.model.specs.Rules.{at, count, behind, nothing, with_names, with_labels, with_arcs, no_content, model_rules, model_start}
 use Rattle.model.specs.Values.{padded, blank_name, blank_arc, arc_of, single, label_rows, model_of}

@@ -3,7 +3,7 @@
 --   Keeps        the sections as they are read keep a content
 --   gathered     the model that the sections make
 --   SectionsRead, ReadsAll   the sections are read: a content that they keep, up to where the sheet ends, or the refusal
---   counts_of     how many of each a content has
+--   counts_of    how many of each a content has
 --   ReadAs       the text is the sheet of a content: the place, the counts and the rest of the text then
 --   ReadsModel   what the call answers: the text is a sheet, or it is refused and the place is as it was
 --

@@ -3,11 +3,11 @@
 --   padded       a list made longer by blank cells
 --   labelled     whether a property labels a state
 --   label_rows   a row of 16 cells for each of 64 states
---   arc_of        an arc as it is kept;  single  the arc that is meant
---   vocabulary_of, state_names_of, kept_table   the parts of the value that a content is kept as
---   model_of      the value that a content is kept as: blank behind its counts
+--   arc_of       an arc as it is kept;  single  the arc that is meant
+--   vocabulary_of, state_names_of, kept_table  the parts of the value that a content is kept as
+--   model_of     the value that a content is kept as: blank behind its counts
 --   inside       whether an arc stays inside a table
---   table_of      the table that a value means: its numbers, its labels, and those of its arcs that stay inside it
+--   table_of     the table that a value means: its numbers, its labels, and those of its arcs that stay inside it
 --
 -- Assumes nothing.
 use Rattle.std.specs.Prelude.{ℕ, ◌-◌, min, Bool, false, ◌&&◌, ◌||◌, List, [], ◌∷◌, ◌++◌, map, length, take, replicate, filter, ◌==◌, nat_lt, slice_index_or}

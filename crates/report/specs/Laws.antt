@@ -1,10 +1,10 @@
 -- What holds of every report.
 --
---   OneReport    a text has one report, for each size of the store
+--   OneReport     a text has one report, for each size of the store
 --   LinesName     behind their heading the bytes are the lines of codes: each once, ascending, and exactly those that are listed at
 --                 the first state; no other list of codes is so
---   LinesNameTheListed    the report of a formula is so
---   LinesApart   over the actions of a model sheet, two codes with one line are one code: a line says which code it names
+--   LinesNameTheListed  the report of a formula is so
+--   LinesApart    over the actions of a model sheet, two codes with one line are one code: a line says which code it names
 --
 -- Assumes nothing.
 use Rattle.std.specs.Prelude.{◌≡◌, ℕ, ◌*◌, ◌^◌, ◌<◌, Bool, List, ◌++◌, length}

@@ -41,7 +41,7 @@ fn nodes_in_prefix_order(rt: HostRuntime) {
     assert_eq!(rt; place.actions(), 2);
     assert_eq!(rt; place.variables(), 2);
     assert_eq!(rt; place.properties(), 1);
-    assert!(rt; place.variable_name(1) == b"Z");
+    assert!(rt; place.variable_name(1) == b"Z".as_slice());
 }
 
 #[test]

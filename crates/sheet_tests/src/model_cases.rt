@@ -31,7 +31,7 @@ fn counts_and_rest(rt: HostRuntime) -> Result<(), Fail> {
             assert_eq!(rt; read.counts.properties, 1);
             assert_eq!(rt; read.counts.labels, 1);
             assert_eq!(rt; read.counts.arcs, 2);
-            assert!(rt; read.rest == b" 0 true");
+            assert!(rt; read.rest == b" 0 true".as_slice());
             Ok(())
         }
         Err(_) => {
@@ -49,8 +49,8 @@ fn names_and_numbers(rt: HostRuntime) {
     assert_eq!(rt; place.vocabulary.find_action(b"bus"), Some(1));
     assert_eq!(rt; place.vocabulary.find_property(b"safe"), Some(0));
     assert_eq!(rt; place.vocabulary.find_property(b"lock"), None);
-    assert!(rt; place.states.name(1) == b"menu");
-    assert!(rt; place.states.name(3) == b"");
+    assert!(rt; place.states.name(1) == b"menu".as_slice());
+    assert!(rt; place.states.name(3) == b"".as_slice());
 }
 
 #[test]

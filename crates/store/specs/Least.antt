@@ -1,7 +1,7 @@
 -- The smallest member from a place on.
 --
 --   Least           o is the smallest member of m that is at least c, or none where m has no such member
---   LeastUnique    there is one such o
+--   LeastUnique     there is one such o
 --
 -- Assumes nothing.
 use Rattle.std.specs.Prelude.{◌≡◌, ℕ, ◌<◌, ◌≤◌, Bool, true, false, Some, None, Option}

@@ -13,7 +13,7 @@ pub trait Store {
     // whether set j has the code c
     ghost sets: { Self → ℕ → ℕ → Bool };
 
-    // The two laws are members that hold a proof: `law` has no generated proof at an `impl` with a lifetime.
+    // The two laws are members that hold a proof.
     ghost sound: { (s : Self) → Lawful (frame s) };
 
     ghost coded: { (s : Self) (j c : ℕ) → sets s j c ≡ true → c < frame_codes (frame s) };

@@ -1,5 +1,5 @@
 -- Walks compose, and lead to one end: there is one word that is due at each point, and it either fits or does not.
-use Rattle.std.proofs.Common.{◌≡◌, ℕ, zero, suc, ◌<◌, ◌≤◌, Bool, true, false, ◌⊎◌, List, length, sym, refl, ap, ◌∙◌, subst, inl, inr, arith}
+use Rattle.std.proofs.Common.{◌≡◌, ℕ, zero, suc, ◌<◌, true, false, ◌⊎◌, List, length, sym, refl, ap, ◌∙◌, subst, inl, inr, arith}
 use Rattle.words.specs.Words.{WordAt, Clean, Foreign, Ends, bytes_of}
 use Rattle.words.specs.Walks.{Rules, First, Fits, Step, Walk, Walks, Stops, WordRefused, Refused}
 use Rattle.words.proofs.Words.{word_unique, word_not_ends, clean_not_foreign, never_both}

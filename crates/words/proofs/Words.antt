@@ -1,12 +1,12 @@
 -- The next word from a position on is one word.
-use Rattle.std.proofs.Common.{◌≡◌, ℕ, zero, suc, ◌+◌, ◌-◌, ◌<◌, ◌≤◌, min, Bool, true, false, not, ◌&&◌, eqb, ltb, leb, ◌⊎◌, List, [], ◌∷◌, ◌++◌, length, get_or, take, replicate, sym, refl, ap, ◌∙◌, subst, ⊎_elim, arith}
+use Rattle.std.proofs.Common.{◌≡◌, ℕ, zero, suc, ◌+◌, ◌-◌, ◌<◌, ◌≤◌, min, Bool, true, false, not, eqb, ltb, leb, ◌⊎◌, List, [], ◌∷◌, ◌++◌, length, get_or, take, replicate, sym, refl, ap, ◌∙◌, subst, ⊎_elim, arith}
 use Rattle.std.specs.List.{prefix_len}
 use Rattle.std.proofs.lemmas.Bool.{cond-true, cond-false, cases_lt}
 use Rattle.std.proofs.lemmas.List.{take_all, take_at}
 use Rattle.std.proofs.lemmas.Bool.Decides.{nat_tests}
 use Rattle.words.specs.declared.Class.{Class}
 use Rattle.words.specs.declared.Letters.{Letters}
-use Rattle.words.specs.declared.Class.TheVariants.{Blank, Solid, Allowed}
+use Rattle.words.specs.declared.Class.TheVariants.{Allowed}
 use Rattle.words.specs.Words.{blank, within, class_of_first, class_of_tail, named, name_bytes, name_from, RunEnd, WordAt, Clean, Foreign, Ends}
 
 never : (b : Bool) → b ≡ true → not b ≡ true → ⊥

@@ -1,7 +1,7 @@
 -- The refusals of the readers: number and position by case.
 --
 -- Assumes nothing.
-use Rattle.std.specs.Prelude.{◌≡◌, ℕ}
+use Rattle.std.specs.Prelude.{ℕ}
 use Rattle.words.specs.declared.Fault.{Fault}
 use Rattle.words.specs.declared.Fault.TheVariants.{TooLong, ForeignByte, TextEnds, BadCount, BadName, NameTaken, NotNamed, Repeated, TooManyBits, BadBraces, TooDeep, TooManyNodes}
 

@@ -5,10 +5,10 @@
 --   Clean        every byte of the word is allowed;  Foreign  one is not
 --   Ends         no word stands from a position on
 --   RunEnd       where a run of bytes of a class ends
---   bytes_of      the bytes between two positions
+--   bytes_of     the bytes between two positions
 --   counted      the number that a count stands for, within its limits: decimal, without leading zeros
 --   named        whether a word is a name: one to eight bytes, a letter first, then letters, digits and `_`
---   name_bytes    the bytes of a name that is kept;  name_from  how a word is kept as a name
+--   name_bytes   the bytes of a name that is kept;  name_from  how a word is kept as a name
 --   lookup       the number under which a name was given: names are numbered from 0
 --
 -- Assumes nothing.

@@ -1,4 +1,4 @@
-use Rattle.std.proofs.Common.{not, drop, arith}
+use Rattle.std.proofs.Common.{not, arith}
 use Rattle.std.specs.Str.{bytes_eq}
 use Rattle.std.proofs.lemmas.List.Sums.{prefix_len-drop_all}
 use Rattle.std.proofs.lemmas.Bool.Decides.{nat_tests}

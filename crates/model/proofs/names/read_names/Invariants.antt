@@ -1,6 +1,3 @@
-use Rattle.std.proofs.Common.{◌-◌}
-use Rattle.model.specs.Content.{names}
-use Rattle.model.specs.Rules.{count}
 use Rattle.model.proofs.NameLoop.{NamesSoFar}
 use Rattle.model.proofs.names.read_names.Given as goal
 
