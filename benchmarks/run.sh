@@ -3,10 +3,9 @@
 set -e
 cd "$(dirname "$0")/.."
 mkdir -p target
-rt staticlib full_bench > target/full_bench.log
-kit=$(dirname "$(dirname "$(rt doc)")")
+(cd crates/full_bench && rt lib) > target/full_bench.log
 for cc in clang gcc; do
     echo "$cc"
-    $cc -O3 -o target/full_bench benchmarks/full.c target/staticlib/libfull_bench.a "$kit/lib/librattle_c.a"
+    $cc -O3 -o target/full_bench benchmarks/full.c crates/full_bench/out/libfull_bench.a
     target/full_bench
 done

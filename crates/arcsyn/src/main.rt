@@ -4,6 +4,7 @@
 use report::printed;
 use std::io;
 use std::io::{Read, Write};
+use std::process::ExitCode;
 
 // One byte more than a text may have is enough to refuse it.
 const ENOUGH: u64 = 32769;
@@ -27,12 +28,12 @@ fn print_report(rt: &HostRuntime) -> io::Result<()> {
         .write_all(&output.as_slice()[..count.min(OUTPUT_BYTES)])
 }
 
-fn main(rt: HostRuntime) -> io::Result<()> {
+fn main(rt: HostRuntime) -> ExitCode {
     match print_report(&rt) {
-        Ok(()) => Ok(()),
+        Ok(()) => ExitCode::SUCCESS,
         Err(error) => {
             let _ = eprintln!(rt; "arcsyn: {error}");
-            Err(error)
+            ExitCode::FAILURE
         }
     }
 }

@@ -1,5 +1,5 @@
 -- Two benches with one table and the same formula last accepted. Assumes nothing.
-use Rattle.std.proofs.Common.{◌≡◌, ℕ, Bool, true, false, Some, None, Ok, Err, Result, sym, refl, ap, ◌∙◌, subst, inl, inr, arith}
+use Rattle.std.proofs.Common.{◌≡◌, ℕ, Bool, true, Some, Ok, Err, Result, ap, inl, inr, arith}
 use Rattle.std.proofs.lemmas.Bool.{both_ways}
 use Rattle.logic.specs.Table.{Table, Sound}
 use Rattle.logic.specs.Listing.{Listed}
@@ -9,7 +9,7 @@ use Rattle.bench.specs.declared.fault.Fault.{Fault}
 use Rattle.bench.specs.declared.fault.Fault.TheVariants.{Differ, TooFewSets, NothingJudged, NoSuchState, NotInUniverse, PlaceTooHigh}
 use Rattle.bench.specs.declared.call.Call.TheVariants as call
 use Rattle.bench.specs.declared.call.Answer.{Answer}
-use Rattle.bench.specs.Ledger.{Entry, Applies, Refuses, Says, holds_as}
+use Rattle.bench.specs.Ledger.{Applies, Says, holds_as}
 use Rattle.bench.proofs.Ledger.{says_unique}
 
 module _ (M : Table) (F G : Frame) (a : Meaning) (s c : ℕ) (here : F.universe c ≡ true) (there : G.universe c ≡ true) where

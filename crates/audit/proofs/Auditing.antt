@@ -1,12 +1,11 @@
 -- From a run on a bench just opened to the law. Assumes nothing.
-use Rattle.std.proofs.Common.{◌≡◌, ℕ, suc, ◌<◌, ◌≤◌, Bool, true, List, get_or, Some, None, Decides, Result, sym, refl, ap, ◌∙◌, subst, inl, arith}
+use Rattle.std.proofs.Common.{◌≡◌, ℕ, ◌<◌, Bool, List, Some, None, Decides, Result, refl, ap, subst, inl, arith}
 use Rattle.logic.specs.Table.{Table, Sound}
 use Rattle.logic.specs.Listing.{Listed}
 use Rattle.model.specs.declared.Model.{Model}
 use Rattle.model.specs.Values.{table_of}
 use Rattle.store.specs.Frames.{Frame, Lawful}
 use Rattle.evaluate.specs.Layout.{result_set}
-use Rattle.formula.specs.Wholes.{Meaning}
 use Rattle.model.proofs.GivingBack.{tables_are_sound}
 use Rattle.bench.specs.declared.bench.Bench.{Bench}
 use Rattle.bench.specs.declared.fault.Fault.{Fault}
@@ -15,7 +14,6 @@ use Rattle.bench.specs.declared.call.Call.TheVariants as call
 use Rattle.bench.specs.declared.call.Answer.{Answer}
 use Rattle.bench.specs.Ledger.{Entry, Says, holds_as}
 use Rattle.bench.specs.Matching.{bench_table, Matches, Stays}
-use Rattle.audit.specs.Runs.{LastAccepted, EntryAfter}
 use Rattle.audit.specs.Laws.{Agree}
 use Rattle.audit.specs.Running.{Ran}
 use Rattle.audit.specs.Audits.{Held, Law, AskedHolds}

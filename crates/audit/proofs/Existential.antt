@@ -1,5 +1,5 @@
 -- What a listing made with least says of the existential part. Assumes nothing.
-use Rattle.std.proofs.Common.{◌≡◌, ℕ, ◌*◌, ◌^◌, ◌<◌, ◌≤◌, true, List, length, get_or, Some, None, sym, refl, ap, ◌∙◌, subst, arith}
+use Rattle.std.proofs.Common.{◌≡◌, ℕ, ◌*◌, ◌^◌, ◌<◌, true, List, length, get_or, Some, None, sym, ◌∙◌, subst, arith}
 use Rattle.logic.specs.Codes.{Includes, Bounded}
 use Rattle.logic.specs.Table.{Table, Sound}
 use Rattle.logic.specs.Existential.{Existential, Uses}
@@ -13,7 +13,7 @@ use Rattle.bench.specs.declared.call.Answer.{Answer}
 use Rattle.bench.specs.declared.call.Answer.TheVariants as answer
 use Rattle.formula.specs.Wholes.{Meaning, meaning_of}
 use Rattle.bench.specs.Questions.{Names, Alone}
-use Rattle.bench.specs.Ledger.{Entry, formula_of, Accepted}
+use Rattle.bench.specs.Ledger.{Entry, formula_of}
 use Rattle.bench.proofs.Meanings.{meaning_uses}
 use Rattle.audit.specs.Runs.{Told}
 use Rattle.audit.specs.Laws.{place, LeastLists}

@@ -1,13 +1,8 @@
 -- The laws over the answers to a list of calls. Assumes nothing.
-use Rattle.std.proofs.Common.{◌≡◌, ℕ, zero, suc, ◌*◌, ◌^◌, ◌<◌, ◌≤◌, Bool, true, false, ◌⊎◌, ◌↔◌, List, length, get_or, Some, None, Ok, Err, Decides, Option, Result, sym, refl, ap, ◌∙◌, subst, inl, inr, ⊎_elim, arith}
-use Rattle.std.proofs.lemmas.Bool.{cases_lt, both_ways}
-use Rattle.logic.specs.Codes.{Includes}
-use Rattle.logic.specs.Formulas.{Formula}
+use Rattle.std.proofs.Common.{◌≡◌, ℕ, zero, suc, ◌<◌, ◌≤◌, List, length, get_or, Some, None, Option, sym, refl, subst, inl, inr, ⊎_elim, arith}
+use Rattle.std.proofs.lemmas.Bool.{cases_lt}
 use Rattle.logic.specs.Table.{Table, Sound}
-use Rattle.logic.specs.Existential.{Existential, Uses}
-use Rattle.logic.specs.Listing.{Listed, Minimal}
-use Rattle.logic.proofs.Grows.{existential_grows}
-use Rattle.logic.proofs.Minimal.{listed_minimal}
+use Rattle.logic.specs.Listing.{Listed}
 use Rattle.store.specs.Frames.{Frame, Lawful}
 use Rattle.formula.specs.Wholes.{Meaning}
 use Rattle.bench.specs.declared.fault.Fault.{Fault}
@@ -16,11 +11,11 @@ use Rattle.bench.specs.declared.call.Call.{Call}
 use Rattle.bench.specs.declared.call.Call.TheVariants as call
 use Rattle.bench.specs.declared.call.Answer.{Answer}
 use Rattle.bench.specs.declared.call.Answer.TheVariants as answer
-use Rattle.bench.specs.Questions.{First, Names, Alone}
-use Rattle.bench.specs.Ledger.{Entry, Lists, formula_of, Applies, Refuses, Unrefused, Value, Says, Accepted, holds_as}
+use Rattle.bench.specs.Questions.{First, Alone}
+use Rattle.bench.specs.Ledger.{Entry, Lists, formula_of, Applies, Value, Says, Accepted}
 use Rattle.bench.proofs.Ledger.{says_unique, accepted_or_not}
-use Rattle.audit.specs.Runs.{a_call, an_answer, Quiet, LastAccepted, EntryAfter, Told}
-use Rattle.audit.specs.Laws.{SameAnswers, place, Carried, ListingNames, LeastLists}
+use Rattle.audit.specs.Runs.{a_call, an_answer, Quiet, LastAccepted, Told}
+use Rattle.audit.specs.Laws.{SameAnswers, place, Carried, ListingNames}
 use Rattle.audit.proofs.Entries.{quiet_join, quiet_one, quiet_within, entry_some, entry_stays}
 use Rattle.audit.proofs.Listings.{firsts_name}
 

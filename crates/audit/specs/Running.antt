@@ -6,7 +6,7 @@
 --                judge leaves every set of the store and the judgement as they were
 --
 -- frame and sets say of a store what it is over and which codes its sets have. Assumes nothing.
-use Rattle.std.specs.Prelude.{◌≡◌, ℕ, suc, ◌<◌, ◌≤◌, Bool, List, set, slice_index_or, slice_set}
+use Rattle.std.specs.Prelude.{◌≡◌, ℕ, suc, ◌<◌, ◌≤◌, Bool, List, slice_index_or, slice_set}
 use Rattle.store.specs.Frames.{Frame}
 use Rattle.formula.specs.Wholes.{Meaning}
 use Rattle.bench.specs.declared.bench.Bench.{Bench}

@@ -1,20 +1,20 @@
 -- From what the store answers to what the ledger says. Assumes nothing.
-use Rattle.std.proofs.Common.{◌≡◌, ℕ, ◌+◌, ◌*◌, ◌<◌, ◌≤◌, Bool, true, false, cond, ltb, ◌⊎◌, Some, None, Ok, Err, Decides, Option, Result, sym, refl, ap, ◌∙◌, subst, inl, inr, ⊎_elim, arith}
+use Rattle.std.proofs.Common.{◌≡◌, ℕ, ◌+◌, ◌*◌, ◌<◌, ◌≤◌, Bool, true, false, cond, ltb, Some, None, Ok, Err, Decides, Option, Result, sym, refl, ap, ◌∙◌, subst, inl, inr, ⊎_elim, arith}
 use Rattle.std.proofs.lemmas.Nat.{mul-le}
-use Rattle.std.proofs.lemmas.Bool.{cases_lt, cases_Bool, lt-ltb, le-ltb, lt-leb, cond-true, cond-false, both_ways}
+use Rattle.std.proofs.lemmas.Bool.{cases_lt, lt-ltb, le-ltb, lt-leb, cond-true, cond-false, both_ways}
 use Rattle.logic.specs.Formulas as formulas
 use Rattle.logic.specs.Table.{Table}
 use Rattle.logic.specs.Listing.{Listed}
 use Rattle.store.specs.declared.fault.Fault as stores
 use Rattle.store.specs.declared.fault.Fault.TheVariants.{CodeTooHigh}
-use Rattle.store.specs.Frames.{Frame, Lawful, frame_codes}
+use Rattle.store.specs.Frames.{Frame, frame_codes}
 use Rattle.store.specs.Calls.{Answers, one_set, set_and_code, set_and_start}
 use Rattle.store.specs.Least.{Least}
 use Rattle.store.proofs.Refusals.{ok_answers, one_set_none, set_and_code_none, set_and_start_none}
 use Rattle.members.specs.Numbers.{number}
 use Rattle.members.specs.Smallest.{Smallest}
 use Rattle.members.specs.Minimal.{LeastMinimal}
-use Rattle.evaluate.specs.Layout.{universe_set, result_set, sets_needed}
+use Rattle.evaluate.specs.Layout.{result_set}
 use Rattle.formula.specs.Wholes.{Meaning}
 use Rattle.evaluate.specs.Evaluation.{Enough}
 use Rattle.bench.specs.declared.bench.Bench.{Bench}

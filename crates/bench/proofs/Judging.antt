@@ -1,5 +1,5 @@
 -- From what an evaluation answers to what the ledger says of a judge. Assumes nothing.
-use Rattle.std.proofs.Common.{◌≡◌, ℕ, ◌<◌, Bool, true, false, ◌⊎◌, Some, None, Ok, Err, Decides, sym, refl, ap, ◌∙◌, subst, inl, inr, arith, Bor}
+use Rattle.std.proofs.Common.{◌≡◌, ℕ, ◌<◌, Bool, true, Some, None, Ok, Err, Decides, sym, refl, ap, ◌∙◌, subst, inl, inr, arith, Bor}
 use Rattle.formula.specs.declared.Formula.{Formula}
 use Rattle.logic.specs.Table.{Table}
 use Rattle.logic.specs.Listing.{Listed}
@@ -15,11 +15,10 @@ use Rattle.bench.specs.declared.fault.Fault.{Fault}
 use Rattle.bench.specs.declared.fault.Fault.TheVariants.{Differ, TooFewSets, NothingJudged, NoSuchState, NotInUniverse, PlaceTooHigh}
 use Rattle.bench.specs.declared.call.Call.{Call}
 use Rattle.bench.specs.declared.call.Call.TheVariants as call
-use Rattle.bench.specs.declared.call.Answer.{Answer}
 use Rattle.bench.specs.declared.call.Answer.TheVariants as answer
 use Rattle.bench.specs.Faults.{fault_number, refusal_of}
 use Rattle.bench.specs.Ledger.{Entry, formula_of, Applies, Refuses, Unrefused, Says, Accepted, Enters}
-use Rattle.bench.specs.Matching.{bench_table, Backs, Matches, Stays, Keeps, Left}
+use Rattle.bench.specs.Matching.{bench_table, Backs, Matches, Keeps, Left}
 
 module _ {S : Type 0} (frame : S → Frame) (sets : S → ℕ → ℕ → Bool) (b d : Bench S) where
   -- a bench that is kept backs what it backed

@@ -1,5 +1,5 @@
 -- The ledger says one answer to each call, and has one entry after it. Assumes nothing.
-use Rattle.std.proofs.Common.{◌≡◌, ℕ, ◌<◌, ◌≤◌, Bool, cond, eqb, ◌⊎◌, Some, None, Option, sym, refl, ap, ◌∙◌, subst, inl, inr, ⊎_elim, arith}
+use Rattle.std.proofs.Common.{◌≡◌, ℕ, cond, eqb, ◌⊎◌, Some, None, Option, sym, refl, ap, ◌∙◌, subst, inl, inr, ⊎_elim, arith}
 use Rattle.std.proofs.lemmas.Bool.{cases_lt, cases_eq, cases_order}
 use Rattle.std.proofs.lemmas.Bool.Decides.{same_from_decides}
 use Rattle.logic.specs.Table.{Table, Sound}
@@ -17,7 +17,7 @@ use Rattle.bench.specs.declared.call.Answer.TheVariants as answer
 use Rattle.bench.specs.Faults.{fault_number}
 use Rattle.formula.specs.Wholes.{Meaning, meaning_of}
 use Rattle.bench.specs.Questions.{Alone}
-use Rattle.bench.specs.Ledger.{Entry, Lists, formula_of, Applies, Refuses, Unrefused, Value, Says, Accepted, Enters}
+use Rattle.bench.specs.Ledger.{Entry, Lists, formula_of, Refuses, Value, Says, Accepted, Enters}
 use Rattle.bench.proofs.Questions.{first_unique, fewest_unique, many_unique}
 
 abbrev fault_of : ℕ → Fault

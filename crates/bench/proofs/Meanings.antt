@@ -1,10 +1,10 @@
 -- What a formula's meaning speaks of. Assumes nothing.
-use Rattle.std.proofs.Common.{◌≡◌, ℕ, sym, subst, inl, inr, ⊎_elim}
+use Rattle.std.proofs.Common.{ℕ, sym, subst, ⊎_elim}
 use Rattle.logic.specs.Formulas as logic
 use Rattle.logic.specs.Existential.{Uses, UsesOver}
 use Rattle.formula.specs.declared.Formula.{Formula}
 use Rattle.formula.specs.Nodes.{alpha_of}
-use Rattle.formula.specs.Wholes.{AlphaIn, InRange, Meaning, Means, meaning_of}
+use Rattle.formula.specs.Wholes.{AlphaIn, InRange, Meaning, meaning_of}
 use Rattle.formula.proofs.WholeLaws.{meanings}
 
 alpha_uses : (actions variables : ℕ) (α : logic.Alpha) → AlphaIn actions variables (alpha_of α) → UsesOver variables α

@@ -1,12 +1,12 @@
 -- The questions to a set of codes, answered from a test that says which codes the set has. Assumes nothing.
-use Rattle.std.proofs.Common.{◌≡◌, ℕ, ◌<◌, ◌≤◌, Bool, true, false, Some, None, Decides, Option, sym, refl, ap, ◌∙◌, subst}
+use Rattle.std.proofs.Common.{◌≡◌, ℕ, ◌<◌, Bool, true, Some, None, Decides, Option, sym, ◌∙◌}
 use Rattle.std.proofs.lemmas.Bool.Decides.{not_from_Decides}
 use Rattle.store.specs.Least.{Least}
 use Rattle.members.specs.Numbers.{number}
 use Rattle.members.specs.Smallest.{Smallest}
 use Rattle.members.specs.Minimal.{Minimal, LeastMinimal}
 use Rattle.members.proofs.Counting.{number_says}
-use Rattle.bench.specs.Questions.{First, Names, Many, Fewest, Alone}
+use Rattle.bench.specs.Questions.{First, Many, Fewest, Alone}
 
 module _ (m : ℕ → Bool) (P : ℕ → Type 0) (says : (c : ℕ) → Decides (m c) (P c)) where
   pub first_from : (p : ℕ) (o : Option ℕ) → Least m p o → First P p o

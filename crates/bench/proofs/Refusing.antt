@@ -1,15 +1,14 @@
 -- Which refusal a question meets first. Assumes nothing.
-use Rattle.std.proofs.Common.{◌≡◌, ℕ, ◌<◌, ◌≤◌, false, Some, None, Option, sym, refl, ap, ◌∙◌, subst, inl, inr, arith}
+use Rattle.std.proofs.Common.{◌≡◌, ℕ, ◌<◌, ◌≤◌, Some, None, Option, sym, refl, subst, arith}
 use Rattle.logic.specs.Table.{Table}
-use Rattle.store.specs.Frames.{Frame, frame_codes}
+use Rattle.store.specs.Frames.{Frame}
 use Rattle.formula.specs.Wholes.{Meaning}
 use Rattle.evaluate.specs.Evaluation.{Agrees, Enough}
 use Rattle.bench.specs.declared.fault.Fault.{Fault}
 use Rattle.bench.specs.declared.fault.Fault.TheVariants.{Differ, TooFewSets, NothingJudged, NoSuchState, NotInUniverse, PlaceTooHigh}
 use Rattle.bench.specs.declared.call.Call.{Call}
-use Rattle.bench.specs.declared.call.Answer.TheVariants as answer
 use Rattle.bench.specs.Faults.{fault_number}
-use Rattle.bench.specs.Ledger.{Entry, There, formula_of, state_of, code_of, place_of, Applies, Refuses, Unrefused, Says}
+use Rattle.bench.specs.Ledger.{Entry, There, formula_of, state_of, Applies, Refuses, Unrefused}
 
 module _ {X : Type 0} (P : X → Type 0) where
   there : (o : Option X) (x : X) → o ≡ Some x → P x → There o P

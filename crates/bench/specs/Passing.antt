@@ -3,7 +3,7 @@
 --   Passed      r is the store's answer, as P says of it, and its refusal, o where there is one, is told as n
 --
 -- Assumes nothing.
-use Rattle.std.specs.Prelude.{◌≡◌, None, Ok, Err, Option, Result}
+use Rattle.std.specs.Prelude.{◌≡◌, Ok, Err, Option, Result}
 use Rattle.store.specs.declared.fault.Fault as stores
 use Rattle.store.specs.Calls.{Answers}
 use Rattle.bench.specs.declared.fault.Fault.{Fault}

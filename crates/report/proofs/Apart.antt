@@ -1,20 +1,18 @@
 -- A line says which code it names. Assumes nothing.
-use Rattle.std.proofs.Common.{◌≡◌, ℕ, zero, suc, ◌+◌, ◌*◌, ◌^◌, ◌<◌, ◌≤◌, Bool, true, false, cond, eqb, leb, ◌≢◌, List, [], ◌∷◌, ◌++◌, length, get_or, Some, None, codes, Option, sym, refl, ap, ◌∙◌, subst, ⊎_elim, mul-zero, arith}
+use Rattle.std.proofs.Common.{◌≡◌, ℕ, zero, suc, ◌+◌, ◌*◌, ◌^◌, ◌<◌, ◌≤◌, Bool, true, false, cond, eqb, leb, ◌≢◌, List, [], ◌∷◌, ◌++◌, length, get_or, Some, codes, Option, sym, refl, ap, ◌∙◌, subst, ⊎_elim, mul-zero, arith}
 use Rattle.std.specs.List.{flat_map, prefix_len, AllByRecursion}
 use Rattle.std.proofs.ByRecursion.{All-append, All-get_or, All-push}
-use Rattle.std.proofs.lemmas.List.{append_assoc, append-nil, append_cancel_left, append_cancel_right, same_from_push, length-append}
+use Rattle.std.proofs.lemmas.List.{append_assoc, append-nil, append_cancel_right, same_from_push}
 use Rattle.std.proofs.lemmas.Bool.{cases_Bool, cases_lt, cond-true, cond-false, and_parts, ltb-true, eqb-true}
-use Rattle.logic.specs.Codes.{gives, Includes}
+use Rattle.logic.specs.Codes.{gives}
 use Rattle.logic.proofs.Inclusion.{includes_same}
 use Rattle.words.specs.Words.{within, class_of_first, named, lookup}
 use Rattle.words.specs.declared.Class.TheVariants.{LowerTail}
 use Rattle.words.specs.declared.Letters.TheVariants.{Lower}
-use Rattle.model.specs.Content as model
 use Rattle.model.specs.declared.names.Names.TheVariants.{Actions}
-use Rattle.model.specs.Grammar.{Admissible}
 use Rattle.model.proofs.Sheets.{names_look_up}
 use Rattle.report.specs.Laws.{LinesNameTheListed, LinesApart}
-use Rattle.report.specs.Lines.{spaced, gap, none, passing, braced, given_text, given_texts, line}
+use Rattle.report.specs.Lines.{spaced, gap, passing, given_text, given_texts, line}
 use Rattle.report.proofs.Listing.{names_unique}
 use Rattle.report.proofs.Spacing.{spaced_more, none_texts}
 

@@ -4,7 +4,7 @@ use Rattle.std.proofs.lemmas.List.{length-map, length-append, length-replicate, 
 use Rattle.std.proofs.lemmas.Bool.Decides.{nat_tests}
 use Rattle.logic.specs.Table.{Table}
 use Rattle.words.specs.Faults.{text_limit}
-use Rattle.words.specs.Words.{WordAt, counted, limited, decimal, name_bytes, name_from, named}
+use Rattle.words.specs.Words.{WordAt, counted, limited, decimal, name_bytes, name_from}
 use Rattle.words.specs.declared.Letters.TheVariants.{Upper}
 use Rattle.words.proofs.Words.{kept_whole}
 use Rattle.model.specs.declared.Model.{Model}
@@ -30,10 +30,10 @@ use Rattle.evaluate.specs.Faults.{evaluation_number}
 use Rattle.report.specs.declared.marks.Mark.{Mark}
 use Rattle.report.specs.declared.sheets.Laid.{Laid}
 use Rattle.report.specs.declared.sheets.Refused.{Refused}
-use Rattle.report.specs.Formulas.{FormulaReport, LaysSome, Evaluates, Small}
+use Rattle.report.specs.Formulas.{LaysSome, Evaluates, Small}
 use Rattle.report.specs.Laying.{whole_frame, ReadTo, NotRead, SheetLaid}
 use Rattle.report.specs.Lines.{action_names, variable_names}
-use Rattle.report.specs.Reports.{Sheet, Told, TooLarge, SheetStops}
+use Rattle.report.specs.Reports.{Sheet, Told, SheetStops}
 use Rattle.report.proofs.Moving.{refused_inside, sheet_reaches, next_is}
 
 limited_high : (low high n : ℕ) (o : Option ℕ) → limited low high o ≡ Some n → n ≤ high

@@ -1,9 +1,9 @@
 -- How far a sheet reaches in its text. Assumes nothing.
-use Rattle.std.proofs.Common.{◌≡◌, ℕ, zero, suc, ◌+◌, ◌-◌, ◌<◌, ◌≤◌, Bool, true, false, List, [], length, drop, sym, refl, ap, ◌∙◌, inl, inr, arith}
+use Rattle.std.proofs.Common.{◌≡◌, ℕ, zero, suc, ◌+◌, ◌-◌, ◌<◌, ◌≤◌, true, false, List, length, drop, sym, refl, ap, ◌∙◌, inl, inr, arith}
 use Rattle.std.proofs.lemmas.List.{length-drop}
 use Rattle.std.proofs.lemmas.Bool.{both_ways}
 use Rattle.words.specs.Faults.{text_limit}
-use Rattle.words.specs.Walks.{Rules, Walk, Walks, Refused, SheetRefused}
+use Rattle.words.specs.Walks.{Rules, Walk, Walks, SheetRefused}
 use Rattle.model.specs.Content as model
 use Rattle.model.specs.Grammar.{ModelSheet}
 use Rattle.model.proofs.Sheets.{sheets_are_walks}

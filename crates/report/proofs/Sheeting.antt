@@ -1,5 +1,5 @@
 -- Sheets told one behind the other. Assumes nothing.
-use Rattle.std.proofs.Common.{◌≡◌, ℕ, zero, suc, ◌-◌, List, [], ◌++◌, length, drop, sym, refl, ap, ◌∙◌, subst, inl, inr, arith}
+use Rattle.std.proofs.Common.{◌≡◌, ℕ, suc, ◌-◌, List, [], ◌++◌, length, drop, sym, refl, ap, ◌∙◌, subst, inl, inr, arith}
 use Rattle.std.proofs.lemmas.List.{append_assoc, append-nil, length-drop}
 use Rattle.words.specs.Words.{Ends}
 use Rattle.model.specs.Content as model
@@ -7,7 +7,7 @@ use Rattle.model.specs.Grammar.{ModelSheet}
 use Rattle.report.specs.declared.marks.Mark.{Mark}
 use Rattle.report.specs.Formulas.{LaysSome}
 use Rattle.report.specs.Marks.{Lays}
-use Rattle.report.specs.Reports.{Told, SheetStops, Stops, Goes, Sheets, SheetsFrom, ReportOf}
+use Rattle.report.specs.Reports.{Told, SheetStops, Sheets, SheetsFrom, ReportOf}
 use Rattle.report.specs.Texts.{refusal}
 use Rattle.report.proofs.Moving.{model_reaches}
 use Rattle.report.proofs.Laying.{lays_none, lays_then, lays_same}

@@ -1,6 +1,5 @@
 -- Words with one space between, one more at a time. Assumes nothing.
 use Rattle.std.proofs.Common.{◌≡◌, ℕ, zero, suc, ◌+◌, ◌*◌, ◌<◌, ◌≤◌, Bool, true, false, eqb, List, [], ◌∷◌, ◌++◌, map, length, get_or, take, codes, sym, refl, ap, ◌∙◌, mul_comm, add-mul, add-one, arith}
-use Rattle.std.specs.List.{flat_map}
 use Rattle.std.proofs.lemmas.Nat.{mul-le}
 use Rattle.std.proofs.lemmas.List.{flat_map_more, append-nil, length-map, length-take-le, nil_from_length}
 use Rattle.std.proofs.lemmas.Bool.{cond-true, cond-false, ne_eqb}

@@ -1,5 +1,5 @@
 -- From an evaluated formula to its report. Assumes nothing.
-use Rattle.std.proofs.Common.{◌≡◌, ℕ, ◌+◌, ◌*◌, ◌<◌, ◌≤◌, Bool, true, List, length, Ok, Err, Result, sym, refl, ap, ◌∙◌, subst, add-mul, arith, MatchResult}
+use Rattle.std.proofs.Common.{◌≡◌, ℕ, ◌<◌, ◌≤◌, Bool, true, List, length, Ok, Err, Result, sym, refl, ap, ◌∙◌, add-mul, arith, MatchResult}
 use Rattle.std.proofs.lemmas.Nat.{mul-le}
 use Rattle.logic.specs.Formulas.{Formula, truth, property, neg, or, and, one, two, nodes}
 use Rattle.logic.specs.Table.{Table}

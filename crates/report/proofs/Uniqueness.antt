@@ -1,5 +1,5 @@
 -- A text has one report, for each size of the store. Assumes nothing.
-use Rattle.std.proofs.Common.{◌≡◌, ℕ, zero, suc, ◌+◌, Bool, true, List, ◌++◌, length, drop, sym, refl, ap, ◌∙◌, subst, inl, inr}
+use Rattle.std.proofs.Common.{◌≡◌, ℕ, zero, suc, ◌+◌, Bool, true, List, ◌++◌, length, drop, sym, ap, ◌∙◌, subst, inl, inr}
 use Rattle.logic.specs.Formulas as logic
 use Rattle.logic.specs.Table as table
 use Rattle.logic.specs.Listing.{Listed}
@@ -11,7 +11,7 @@ use Rattle.formula.specs.Sheets as formula
 use Rattle.formula.proofs.SheetLaws.{one_reading, never_both_ways, one_refusal}
 use Rattle.report.specs.Formulas.{FormulaReport}
 use Rattle.report.specs.Laws.{OneReport}
-use Rattle.report.specs.Reports.{universe, Sheet, Enough, Told, SheetStops, Stops, Goes, Sheets, SheetsFrom, ReportOf}
+use Rattle.report.specs.Reports.{universe, Sheet, Enough, Told, SheetStops, Stops, Sheets, SheetsFrom}
 use Rattle.report.specs.Texts.{report_text, refusal}
 use Rattle.report.proofs.Listing.{names_unique}
 

@@ -9,7 +9,7 @@
 --   Lays         bytes were laid out: the mark and the output behind them
 --
 -- An output shorter than the room takes as many bytes as it has; the others are counted. Assumes nothing.
-use Rattle.std.specs.Prelude.{◌≡◌, ℕ, ◌+◌, Bool, true, false, cond, List, [], ◌∷◌, nat_lt, slice_set}
+use Rattle.std.specs.Prelude.{◌≡◌, ℕ, ◌+◌, true, false, cond, List, [], ◌∷◌, nat_lt, slice_set}
 use Rattle.report.specs.declared.marks.Mark.{Mark}
 
 abbrev pub start : ℕ → Mark

@@ -56,10 +56,10 @@ mod tests {
         let mut out = [0u8; 64];
         let text = b"1 a 1 b 0 0 0  0 true 0 not true";
         assert_eq!(rt; report(text, &mut store, &mut out), Ok(17));
-        assert!(rt; &out[0..17] == b"refused 21 at 15\n");
+        assert!(rt; &out[0..17] == b"refused 21 at 15\n".as_slice());
         let mut larger = [0u8; 8];
         assert_eq!(rt; report(text, &mut larger, &mut out), Ok(40));
-        assert!(rt; &out[0..40] == b"held 1 of 1 rounds 0\n-\nrefused 21 at 22\n");
+        assert!(rt; &out[0..40] == b"held 1 of 1 rounds 0\n-\nrefused 21 at 22\n".as_slice());
     }
 
     #[test]
@@ -71,15 +71,15 @@ mod tests {
             report(text, &mut store, &mut out),
             Err(ReportFault::OutputTooShort)
         );
-        assert!(rt; &out[0..22] == &[7u8; 22]);
+        assert!(rt; &out[0..22] == [7u8; 22].as_slice());
         assert_eq!(rt; arcsyn_report(text, &mut store, &mut out), -26);
         assert_eq!(rt; printed(text, &mut store, &mut out), 16);
-        assert!(rt; &out[0..16] == b"refused 26 at 0\n");
+        assert!(rt; &out[0..16] == b"refused 26 at 0\n".as_slice());
         let mut whole = [7u8; 23];
         assert_eq!(rt; arcsyn_report(text, &mut store, &mut whole), 23);
-        assert!(rt; &whole[0..23] == b"held 1 of 1 rounds 0\n-\n");
+        assert!(rt; &whole[0..23] == b"held 1 of 1 rounds 0\n-\n".as_slice());
         let mut tiny = [7u8; 3];
         assert_eq!(rt; printed(text, &mut store, &mut tiny), 3);
-        assert!(rt; &tiny[0..3] == b"ref");
+        assert!(rt; &tiny[0..3] == b"ref".as_slice());
     }
 }

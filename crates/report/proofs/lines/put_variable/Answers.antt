@@ -1,4 +1,3 @@
-use Rattle.std.proofs.Common.{◌++◌}
 use Rattle.report.proofs.Laying.{lays_then}
 use Rattle.report.proofs.lines.put_variable.Goals as goal
 

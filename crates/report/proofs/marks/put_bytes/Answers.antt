@@ -1,4 +1,4 @@
-use Rattle.std.proofs.Common.{◌≤◌, [], ◌∷◌, get_or, take, sym, arith}
+use Rattle.std.proofs.Common.{[], ◌∷◌, get_or, take, sym}
 use Rattle.std.proofs.lemmas.List.{take_more, take_all}
 use Rattle.report.proofs.Laying.{lays_then, lays_same}
 use Rattle.report.proofs.marks.put_bytes.Goals as goal

@@ -1,6 +1,6 @@
-use Rattle.std.proofs.Common.{◌≡◌, ◌<◌, ◌≤◌, length, drop, Ok, Err, sym, refl, subst, arith}
+use Rattle.std.proofs.Common.{length, drop, Ok, Err, sym, refl, subst}
 use Rattle.std.proofs.lemmas.Result.{err_from_is_err_and}
-use Rattle.report.specs.Laying.{ReadTo, NotRead}
+use Rattle.report.specs.Laying.{NotRead}
 use Rattle.formula.specs.Sheets.{given_action_names, given_property_names}
 use Rattle.report.specs.declared.sheets.Refused.{Refused}
 use Rattle.report.proofs.Judging.{within, actions_some, variables_few, sheet_over, evaluates_sheet, told_sheet, refused_sheet, misread, laid_err, made_err}

@@ -1,4 +1,4 @@
-use Rattle.std.proofs.Common.{◌≡◌, ℕ, length, sym, ap, ◌∙◌, subst}
+use Rattle.std.proofs.Common.{ℕ, length, subst}
 use Rattle.words.proofs.Words.{word_not_ends}
 use Rattle.report.specs.Formulas.{LaysSome}
 use Rattle.report.specs.Reports.{Told, SheetStops}

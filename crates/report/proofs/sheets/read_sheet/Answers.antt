@@ -1,7 +1,6 @@
-use Rattle.std.proofs.Common.{◌-◌, ◌≤◌, length, take, drop, arith}
+use Rattle.std.proofs.Common.{◌-◌, length, take, drop, arith}
 use Rattle.std.proofs.lemmas.List.{take_rest}
-use Rattle.words.specs.Faults.{text_limit, number, position}
-use Rattle.formula.specs.Sheets as formula
+use Rattle.words.specs.Faults.{number, position}
 use Rattle.report.proofs.Judging.{read_to, not_read, offset_low}
 use Rattle.report.proofs.sheets.read_sheet.Goals as goal
 
