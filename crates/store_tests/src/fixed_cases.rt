@@ -8,7 +8,7 @@ use store::single::Single;
 
 // The valuation is 6, with the bits 1 and 2. Bits of the mask from 4 on say nothing.
 #[test]
-fn the_universe_below_the_mask(rt: HostRuntime) -> Result<(), Fail> {
+fn the_universe_below_the_mask() -> Result<(), Fail> {
     for row in &[
         (0, true),
         (2, true),
@@ -23,7 +23,6 @@ fn the_universe_below_the_mask(rt: HostRuntime) -> Result<(), Fail> {
         let mut cells = [0u8; 2];
         let mut store = Fixed::new(Single::open(Shape::new(2, 2)?, 6, &mut cells)?, mask);
         ask_each(
-            &rt,
             &mut store,
             &[
                 (Call::Fill(0), Answer::Done),
@@ -31,7 +30,7 @@ fn the_universe_below_the_mask(rt: HostRuntime) -> Result<(), Fail> {
                 (Call::Flip(1), Answer::Done),
                 (Call::Same(0, 1), Answer::Says(true)),
             ],
-        );
+        )?;
     }
     Ok(())
 }
@@ -46,7 +45,6 @@ fn an_empty_universe(rt: HostRuntime) -> Result<(), Fail> {
         (2, 2, 2)
     );
     ask_each(
-        &rt,
         &mut store,
         &[
             (Call::Next(0, 0), Answer::Member(6)),
@@ -60,23 +58,23 @@ fn an_empty_universe(rt: HostRuntime) -> Result<(), Fail> {
             (Call::Pick(0, 3), Answer::Done),
             (Call::Has(0, 6), Answer::Says(false)),
         ],
-    );
+    )?;
     let below = store.into_below();
     assert_eq!(rt; below.has(1, 6)?, true);
     Ok(())
 }
 
 #[test]
-fn refusals_pass_through(rt: HostRuntime) -> Result<(), Fail> {
+fn refusals_pass_through() -> Result<(), Fail> {
     let shape = Shape::new(2, 2)?;
     let mut cells = [1u8];
     let mut store = Fixed::new(Single::open(shape, 6, &mut cells)?, 6);
-    ask_at_the_edges(&rt, &mut store, shape);
+    ask_at_the_edges(&mut store, shape)?;
     Ok(())
 }
 
 #[test]
-fn fixed_over_fixed(rt: HostRuntime) -> Result<(), Fail> {
+fn fixed_over_fixed() -> Result<(), Fail> {
     for row in &[(2, 4, true), (2, 1, false), (8, 2, false), (0, 0, true)] {
         let (inner, outer, kept) = *row;
         let mut cells = [0u8];
@@ -85,7 +83,6 @@ fn fixed_over_fixed(rt: HostRuntime) -> Result<(), Fail> {
             outer,
         );
         ask_each(
-            &rt,
             &mut store,
             &[
                 (Call::Fill(0), Answer::Done),
@@ -93,7 +90,7 @@ fn fixed_over_fixed(rt: HostRuntime) -> Result<(), Fail> {
                 (Call::Flip(0), Answer::Done),
                 (Call::Has(0, 6), Answer::Says(false)),
             ],
-        );
+        )?;
     }
     Ok(())
 }

@@ -32,15 +32,14 @@ fn refusals_at_their_edges(rt: HostRuntime) -> Result<(), Fail> {
             (store.actions(), store.variables(), store.set_count()),
             (actions, variables, 2)
         );
-        ask_at_the_edges(&rt, &mut store, shape);
+        ask_at_the_edges(&mut store, shape)?;
         ask_each(
-            &rt,
             &mut store,
             &[
                 (Call::Has(0, codes - 1), Answer::Says(true)),
                 (Call::Next(0, codes - 1), Answer::Member(codes - 1)),
             ],
-        );
+        )?;
         assert_eq!(rt; cells, [1, 0]);
     }
     Ok(())
@@ -52,7 +51,6 @@ fn no_sets_over_no_bytes(rt: HostRuntime) -> Result<(), Fail> {
     let mut store = Single::open(Shape::new(2, 1)?, 3, &mut cells)?;
     assert_eq!(rt; store.set_count(), 0);
     ask_each(
-        &rt,
         &mut store,
         &[
             (Call::Fill(0), Answer::Refused(32)),
@@ -61,7 +59,7 @@ fn no_sets_over_no_bytes(rt: HostRuntime) -> Result<(), Fail> {
             (Call::Has(0, 3), Answer::Refused(32)),
             (Call::Next(0, 0), Answer::Refused(32)),
         ],
-    );
+    )?;
     Ok(())
 }
 
@@ -78,7 +76,7 @@ fn one_set_twice(rt: HostRuntime) -> Result<(), Fail> {
         let (call, answer, left) = *row;
         let mut cells = [0u8, 7, 255];
         let mut store = Single::open(Shape::new(2, 2)?, 6, &mut cells)?;
-        ask_each(&rt, &mut store, &[(call, answer)]);
+        ask_each(&mut store, &[(call, answer)])?;
         assert_eq!(rt; cells, left);
     }
     Ok(())
@@ -105,7 +103,7 @@ fn two_sets(rt: HostRuntime) -> Result<(), Fail> {
         let (call, answer, left) = *row;
         let mut cells = [0u8, 7, 255];
         let mut store = Single::open(Shape::new(2, 2)?, 6, &mut cells)?;
-        ask_each(&rt, &mut store, &[(call, answer)]);
+        ask_each(&mut store, &[(call, answer)])?;
         assert_eq!(rt; cells, left);
     }
     Ok(())

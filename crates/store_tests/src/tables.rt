@@ -1,5 +1,5 @@
 // A call of a store with what it answers, as one value each, so that a case is a row of a table.
-use std::process::Abort;
+use std::test::Fail;
 use store::calls::Store;
 use store::fault::Fault;
 use store::shape::Shape;
@@ -43,19 +43,22 @@ pub fn ask<S: Store>(store: &mut S, call: Call) -> Answer {
 }
 
 // Every call of the table in order, each with its answer.
-pub fn ask_each<S: Store>(rt: &impl Abort, store: &mut S, table: &[(Call, Answer)]) {
+pub fn ask_each<S: Store>(store: &mut S, table: &[(Call, Answer)]) -> Result<(), Fail> {
     for row in table {
-        let (call, answer) = *row;
-        assert_eq!(rt; (call, ask(store, call)), (call, answer));
+        let (call, owed) = *row;
+        let given = ask(store, call);
+        if given != owed {
+            return Err(Fail::new(format_args!("{call:?}: {given:?}, not {owed:?}")));
+        }
     }
+    Ok(())
 }
 
 // What a store with this shape and at least one set refuses, and the last numbers that it takes.
-pub fn ask_at_the_edges<S: Store>(rt: &impl Abort, store: &mut S, shape: Shape) {
+pub fn ask_at_the_edges<S: Store>(store: &mut S, shape: Shape) -> Result<(), Fail> {
     let (count, bits, codes) = (store.set_count(), shape.bits(), shape.codes());
     for i in &[count, usize::MAX] {
         ask_each(
-            rt,
             store,
             &[
                 (Call::Clear(*i), Answer::Refused(32)),
@@ -69,10 +72,9 @@ pub fn ask_at_the_edges<S: Store>(rt: &impl Abort, store: &mut S, shape: Shape) 
                 (Call::Has(*i, codes), Answer::Refused(32)),
                 (Call::Next(*i, codes + 1), Answer::Refused(32)),
             ],
-        );
+        )?;
     }
     ask_each(
-        rt,
         store,
         &[
             (Call::Pick(0, bits), Answer::Refused(33)),
@@ -83,7 +85,7 @@ pub fn ask_at_the_edges<S: Store>(rt: &impl Abort, store: &mut S, shape: Shape) 
             (Call::Next(0, usize::MAX), Answer::Refused(34)),
             (Call::Next(0, codes), Answer::NoMember),
         ],
-    );
+    )
 }
 
 fn done(r: Result<(), Fault>) -> Answer {
