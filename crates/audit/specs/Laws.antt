@@ -12,7 +12,7 @@
 --                     universes
 --
 -- Assumes nothing.
-use Rattle.std.specs.Prelude.{◌≡◌, ℕ, zero, suc, ◌+◌, ◌<◌, ◌≤◌, Bool, true, ◌↔◌, List, length, get_or, Some, None, Option, Result, slice_index, slice_index_or}
+use Rattle.std.specs.Prelude.{◌≡◌, ℕ, zero, suc, ◌+◌, ◌<◌, ◌≤◌, Bool, true, ◌↔◌, List, length, Some, None, Option, Result, slice_index, slice_index_or}
 use Rattle.logic.specs.Codes.{Includes}
 use Rattle.logic.specs.Table.{Table}
 use Rattle.logic.specs.Existential.{Existential}
@@ -42,7 +42,7 @@ pub record Carried (M : Table) (F : Frame) (cs : List Call) (got : List Answer) 
   pub inside : at (length xs) < n
   pub asks : (k : ℕ) → k ≤ length xs → slice_index_or cs (at k) a_call ≡ ask (place xs k)
   pub names : (k : ℕ) → k < length xs → slice_index_or got (at k) an_answer ≡ said (Some (slice_index xs k))
-  pub ends : get_or got (at (length xs)) an_answer ≡ said None
+  pub ends : slice_index_or got (at (length xs)) an_answer ≡ said None
   pub quiet : Quiet M F cs (at 0) (at (length xs))
 
 abbrev pub ListingNames : Table → Frame → List Call → List Answer → ℕ → Type 0

@@ -48,9 +48,9 @@ two_round_trip Au = refl
 two_round_trip Euw = refl
 two_round_trip Auw = refl
 
-pub not-true : (b : Bool) → (b ≡ true → ⊥) → b ≡ false
-not-true true h = absurd (h refl)
-not-true false h = refl
+pub not_true : (b : Bool) → (b ≡ true → ⊥) → b ≡ false
+not_true true h = absurd (h refl)
+not_true false h = refl
 
 module _ (text : List ℕ) (actions properties : List (List ℕ)) (T : Point) (q : ℕ) (done : over T.due ≡ true) where
   abbrev pub Rest : ℕ → Point → ℕ → Type 0
@@ -94,7 +94,7 @@ module _ (text : List ℕ) (actions properties : List (List ℕ)) (T : Point) (q
           rest = subst (λ u. Rest n u w.1) (sym w.2.goes ∙ ap (λ o. in_braces t ds names before (brace_after set o)) is) w.3;
         }
         by more (Action b) is =
-            let new : bit set b ≡ false = not-true (bit set b) (λ h. w.2.fits 10 (subst (λ o. brace_meets set o 10) (sym is) (refl, h))) in
+            let new : bit set b ≡ false = not_true (bit set b) (λ h. w.2.fits 10 (subst (λ o. brace_meets set o 10) (sym is) (refl, h))) in
             let r = more (bit_or set (2 ^ b)) w.1 (subst (λ u. Rest n u w.1) (sym w.2.goes ∙ ap (λ o. in_braces t ds names before (brace_after set o)) is) w.3) in
             record {
               listed = b ∷ r.listed;

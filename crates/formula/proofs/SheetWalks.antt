@@ -20,13 +20,13 @@ use Rattle.formula.specs.Grammar.{Spells}
 use Rattle.formula.specs.Sheets.{Content, NamesStand, FormulaSheet}
 use Rattle.formula.proofs.NameWalks.{named_short, count_goes, name_goes}
 use Rattle.formula.proofs.GrammarWalks.{formula_walks}
-use Rattle.formula.proofs.GrammarSplits.{not-true, Rest, stuck, the_word}
+use Rattle.formula.proofs.GrammarSplits.{not_true, Rest, stuck, the_word}
 use Rattle.formula.proofs.FormulaSplits.{split_formula}
 use Rattle.formula.specs.Braces.{Stands}
 
-not-false : (b : Bool) → (b ≡ false → ⊥) → b ≡ true
-not-false true h = refl
-not-false false h = absurd (h refl)
+not_false : (b : Bool) → (b ≡ false → ⊥) → b ≡ true
+not_false true h = refl
+not_false false h = absurd (h refl)
 
 module _ (text : List ℕ) (actions properties : List (List ℕ)) where
   names_walk : (ws names : List (List ℕ)) (p q : ℕ) → NamesStand text ws p q → Once (names ++ ws) → Walks (formula_rules actions properties) text (to_name (length ws) names) p (due_parts (1 ∷ []) (names ++ ws) []) q
@@ -38,7 +38,7 @@ module _ (text : List ℕ) (actions properties : List (List ℕ)) where
       let k = length ws in
       let same : bytes_of text first.start m ≡ w = first.bytes in
       let good : named Upper (bytes_of text first.start m) ≡ true = ap (named Upper) same ∙ s.2 in
-      let new : is_some (lookup w names) ≡ false = not-true (is_some (lookup w names)) (λ h. once_new names w ws once ((lookup_decides w names).0 h)) in
+      let new : is_some (lookup w names) ≡ false = not_true (is_some (lookup w names)) (λ h. once_new names w ws once ((lookup_decides w names).0 h)) in
       let fresh : is_some (lookup (bytes_of text first.start m) names) ≡ false = ap (λ v. is_some (lookup v names)) same ∙ new in
       let step = name_goes actions properties text p first.start m (first.word, first.clean) k names good fresh (name_from (bytes_of text first.start m)) refl in
       let bytes : name_bytes (name_from (bytes_of text first.start m)) ≡ w = kept_whole (bytes_of text first.start m) (named_short Upper (bytes_of text first.start m) good) ∙ same in
@@ -89,7 +89,7 @@ module _ (text : List ℕ) (actions properties : List (List ℕ)) where
           stand = (
             w.1,
             the_word text actions properties T q done (due_name k names) p w.0 w.1 word a refl,
-            not-false (named Upper word) (λ bad. a.fits 5 (inl (refl, bad))),
+            not_false (named Upper word) (λ bad. a.fits 5 (inl (refl, bad))),
             r.stand,
           );
           once = λ h. subst Once (append_assoc names (word ∷ []) r.given) (r.once (once_push names word h (λ old. a.fits 6 (inr (refl, old)))));
