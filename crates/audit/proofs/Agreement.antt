@@ -26,7 +26,7 @@ module _ (M : Table) (F G : Frame) (a : Meaning) (s c : ℕ) (here : F.universe 
   listed_both h = record { inside = here; holds = h.holds }
 
 module _ (M : Table) (F G : Frame) (a : Meaning) (s c : ℕ) (here : F.universe c ≡ true) (there : G.universe c ≡ true) where
-  says_both : (b : Answer) → Says M G (Some a) (call.Holds s c) b → Says M F (Some a) (call.Holds s c) b
+  says_both : (b : Result Answer Fault) → Says M G (Some a) (call.Holds s c) b → Says M F (Some a) (call.Holds s c) b
   says_both b (inl h) =
       inl (
         h.0,

@@ -22,7 +22,7 @@ use Rattle.audit.proofs.Existential.{least_lists}
 use Rattle.audit.proofs.Agreement.{holds_agree}
 use Rattle.audit.proofs.Running.{moved}
 
-module _ {S : Type 0} (frame : S → Frame) (sets : S → ℕ → ℕ → Bool) (b d : Bench S) (cs : List Call) (got : List Answer) (n : ℕ) (blank : Matches frame sets b None) (ran : Ran frame sets b d cs got n) where
+module _ {S : Type 0} (frame : S → Frame) (sets : S → ℕ → ℕ → Bool) (b d : Bench S) (cs : List Call) (got : List (Result Answer Fault)) (n : ℕ) (blank : Matches frame sets b None) (ran : Ran frame sets b d cs got n) where
   held : Held frame sets (bench_table b) b.store cs n
   held = record {
     stores = λ k. (ran.benches k).store;

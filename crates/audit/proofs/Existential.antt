@@ -1,5 +1,5 @@
 -- What a listing made with least says of the existential part. Assumes nothing.
-use Rattle.std.proofs.Common.{◌≡◌, ℕ, ◌*◌, ◌^◌, ◌<◌, true, List, length, get_or, Some, None, sym, ◌∙◌, subst, arith}
+use Rattle.std.proofs.Common.{◌≡◌, ℕ, ◌*◌, ◌^◌, ◌<◌, true, List, length, get_or, Some, None, Result, sym, ◌∙◌, subst, arith}
 use Rattle.logic.specs.Codes.{Includes, Bounded}
 use Rattle.logic.specs.Table.{Table, Sound}
 use Rattle.logic.specs.Existential.{Existential, Uses}
@@ -7,6 +7,7 @@ use Rattle.logic.specs.Listing.{Listed, Minimal}
 use Rattle.logic.proofs.Grows.{existential_grows}
 use Rattle.logic.proofs.Minimal.{listed_minimal}
 use Rattle.store.specs.Frames.{Frame, Lawful}
+use Rattle.bench.specs.declared.fault.Fault.{Fault}
 use Rattle.bench.specs.declared.call.Call.{Call}
 use Rattle.bench.specs.declared.call.Call.TheVariants as call
 use Rattle.bench.specs.declared.call.Answer.{Answer}
@@ -61,7 +62,7 @@ module _ (M : Table) (sound : Sound M) (F : Frame) (lawful : Lawful F) (same : F
         holds = existential_grows M sound F.variables (get_or xs k 0) c above a.formula existential uses s low.holds;
       }
 
-module _ (M : Table) (sound : Sound M) (F : Frame) (lawful : Lawful F) (e : Entry) (cs : List Call) (got : List Answer) (n : ℕ) (told : Told M F e cs got n) where
+module _ (M : Table) (sound : Sound M) (F : Frame) (lawful : Lawful F) (e : Entry) (cs : List Call) (got : List (Result Answer Fault)) (n : ℕ) (told : Told M F e cs got n) where
   pub least_lists : LeastLists M F cs got n
   least_lists s xs h a last existential c u =
       let agrees = last.accepted.agrees in

@@ -1,5 +1,5 @@
 -- The laws over the answers to a list of calls. Assumes nothing.
-use Rattle.std.proofs.Common.{◌≡◌, ℕ, zero, suc, ◌<◌, ◌≤◌, List, length, get_or, Some, None, Option, sym, refl, subst, inl, inr, ⊎_elim, arith}
+use Rattle.std.proofs.Common.{◌≡◌, ℕ, zero, suc, ◌<◌, ◌≤◌, List, length, get_or, Some, None, Ok, Option, Result, sym, refl, subst, inl, inr, ⊎_elim, arith}
 use Rattle.std.proofs.lemmas.Bool.{cases_lt}
 use Rattle.logic.specs.Table.{Table, Sound}
 use Rattle.logic.specs.Listing.{Listed}
@@ -33,7 +33,7 @@ module _ (M : Table) (F : Frame) where
   applies_judge e d (call.Smallest s) a is n h = let z : ◌≡◌ {A = ℕ} 0 1 = cc in absurd (omega arith)
   applies_judge e d (call.Least s p) a is n h = let z : ◌≡◌ {A = ℕ} 0 1 = cc in absurd (omega arith)
 
-  value_judge : (e d : Entry) (x : Call) (a : Meaning) → formula_of x ≡ Some a → (b : Answer) → Value M F e x b → Value M F d x b
+  value_judge : (e d : Entry) (x : Call) (a : Meaning) → formula_of x ≡ Some a → (b : Result Answer Fault) → Value M F e x b → Value M F d x b
   value_judge e d (call.Judge f) a is b h = h
   value_judge e d (call.Holds s c) a is b h = let z : ◌≡◌ {A = ℕ} 0 1 = cc in absurd (omega arith)
   value_judge e d (call.Next s p) a is b h = let z : ◌≡◌ {A = ℕ} 0 1 = cc in absurd (omega arith)
@@ -42,7 +42,7 @@ module _ (M : Table) (F : Frame) where
   value_judge e d (call.Least s p) a is b h = let z : ◌≡◌ {A = ℕ} 0 1 = cc in absurd (omega arith)
 
   -- the answer to a judge does not hang on the entry
-  says_judge : (e d : Entry) (x : Call) (a : Meaning) → formula_of x ≡ Some a → (b : Answer) → Says M F e x b → Says M F d x b
+  says_judge : (e d : Entry) (x : Call) (a : Meaning) → formula_of x ≡ Some a → (b : Result Answer Fault) → Says M F e x b → Says M F d x b
   says_judge e d x a is b (inl h) =
       inl (
         h.0,
@@ -54,25 +54,25 @@ module _ (M : Table) (F : Frame) where
       )
   says_judge e d x a is b (inr h) = inr ((λ n k. h.0 n (applies_judge d e x a is n k)), value_judge e d x a is b h.1)
 
-  pub next_first : (e : Entry) (s p : ℕ) (o : Option ℕ) → Says M F e (call.Next s p) (answer.Next o) → First (Lists M F e s) p o
+  pub next_first : (e : Entry) (s p : ℕ) (o : Option ℕ) → Says M F e (call.Next s p) (Ok (answer.Next o)) → First (Lists M F e s) p o
   next_first e s p o (inl h) = let q = h.2 in let z : ◌≡◌ {A = ℕ} 0 1 = cc in absurd (omega arith)
   next_first e s p o (inr h) =
       let q = h.1.1 in
       let same : h.1.0 ≡ o = cc in
       subst (First (Lists M F e s) p) same h.1.2
 
-  pub least_first : (e : Entry) (s p : ℕ) (o : Option ℕ) → Says M F e (call.Least s p) (answer.Least o) → First (Alone F.actions F.variables (Lists M F e s)) p o
+  pub least_first : (e : Entry) (s p : ℕ) (o : Option ℕ) → Says M F e (call.Least s p) (Ok (answer.Least o)) → First (Alone F.actions F.variables (Lists M F e s)) p o
   least_first e s p o (inl h) = let q = h.2 in let z : ◌≡◌ {A = ℕ} 0 1 = cc in absurd (omega arith)
   least_first e s p o (inr h) =
       let q = h.1.1 in
       let same : h.1.0 ≡ o = cc in
       subst (First (Alone F.actions F.variables (Lists M F e s)) p) same h.1.2
 
-  pub least_state : (e : Entry) (s p : ℕ) (o : Option ℕ) → Says M F e (call.Least s p) (answer.Least o) → s < M.states
+  pub least_state : (e : Entry) (s p : ℕ) (o : Option ℕ) → Says M F e (call.Least s p) (Ok (answer.Least o)) → s < M.states
   least_state e s p o (inl h) = let q = h.2 in let z : ◌≡◌ {A = ℕ} 0 1 = cc in absurd (omega arith)
   least_state e s p o (inr h) = ⊎_elim (λ l. l) (λ l. absurd (h.0 NoSuchState l)) (cases_lt s M.states)
 
-module _ (M : Table) (sound : Sound M) (F : Frame) (lawful : Lawful F) (e : Entry) (cs : List Call) (got : List Answer) (n : ℕ) (told : Told M F e cs got n) where
+module _ (M : Table) (sound : Sound M) (F : Frame) (lawful : Lawful F) (e : Entry) (cs : List Call) (got : List (Result Answer Fault)) (n : ℕ) (told : Told M F e cs got n) where
   pub same_answers : SameAnswers M F cs got n
   same_answers i j l r same quiet =
       let d = entry_some M F cs e i in
@@ -102,15 +102,15 @@ module _ (M : Table) (sound : Sound M) (F : Frame) (lawful : Lawful F) (e : Entr
         (λ high. let q : suc m ≡ k = omega arith in subst (λ i. h.at i ≤ h.at (suc m)) q (omega arith))
         (cases_lt k (suc m))
 
-    pub asked : (k : ℕ) (o : Option ℕ) → k ≤ length xs → get_or got (h.at k) an_answer ≡ said o → Says M F (Some a) (ask (place xs k)) (said o)
+    pub asked : (k : ℕ) (o : Option ℕ) → k ≤ length xs → get_or got (h.at k) an_answer ≡ Ok (said o) → Says M F (Some a) (ask (place xs k)) (Ok (said o))
     asked k o l is =
         let low = climbs 0 k (omega arith) l in
         let high = climbs k (length xs) l (omega arith) in
         let inside = h.inside in
         let entry = entry_stays M F cs e (h.at 0) (h.at k) (Some a) low (quiet_within M F cs (h.at 0) (h.at (length xs)) (h.at 0) (h.at k) (omega arith) high h.quiet) (inl (a, last, refl)) in
         let t = told (h.at k) (omega arith) (Some a) entry in
-        let P : Call → Type 0 = λ y. Says M F (Some a) y (said o) in
-        let Q : Answer → Type 0 = λ y. Says M F (Some a) (get_or cs (h.at k) a_call) y in
+        let P : Call → Type 0 = λ y. Says M F (Some a) y (Ok (said o)) in
+        let Q : Result Answer Fault → Type 0 = λ y. Says M F (Some a) (get_or cs (h.at k) a_call) y in
         subst P (h.asks k l) (subst Q is t)
 
   pub listing_names : ListingNames M F cs got n

@@ -1,5 +1,5 @@
 -- One call more in a run. Assumes nothing.
-use Rattle.std.proofs.Common.{◌≡◌, ℕ, suc, ◌+◌, ◌<◌, ◌≤◌, Bool, cond, leb, ◌≢◌, List, length, get_or, drop, set, sym, refl, ap, ◌∙◌, subst, ⊎_elim, add-one, arith, get_or-set_other, get_or-set_same}
+use Rattle.std.proofs.Common.{◌≡◌, ℕ, suc, ◌+◌, ◌<◌, ◌≤◌, Bool, cond, leb, ◌≢◌, List, length, get_or, drop, set, Result, sym, refl, ap, ◌∙◌, subst, ⊎_elim, add-one, arith, get_or-set_other, get_or-set_same}
 use Rattle.std.proofs.lemmas.List.{drop-drop, drop-set-lt}
 use Rattle.std.proofs.lemmas.Bool.{cases_lt, cond-true, cond-false, le-leb, lt-leb}
 use Rattle.logic.specs.Table.{Table}
@@ -7,12 +7,13 @@ use Rattle.model.specs.Values.{table_of}
 use Rattle.store.specs.Frames.{Frame}
 use Rattle.formula.specs.Wholes.{Meaning}
 use Rattle.bench.specs.declared.bench.Bench.{Bench}
+use Rattle.bench.specs.declared.fault.Fault.{Fault}
 use Rattle.bench.specs.declared.call.Call.{Call}
 use Rattle.bench.specs.declared.call.Answer.{Answer}
 use Rattle.bench.specs.Ledger.{Entry, Says, Accepted, Enters}
 use Rattle.bench.specs.Matching.{bench_table, Matches, Stays, Keeps, Left}
 use Rattle.audit.specs.Runs.{a_call, an_answer, EntryAfter, Told}
-use Rattle.audit.specs.Running.{Stepped, Ran}
+use Rattle.audit.specs.Running.{Ran}
 use Rattle.audit.proofs.Entries.{entry_from, entry_unique, entry_none}
 
 module _ {S : Type 0} (frame : S → Frame) (b d : Bench S) (h : Stays frame b d) where
@@ -35,7 +36,7 @@ module _ {S : Type 0} (frame : S → Frame) (b d : Bench S) (h : Stays frame b d
   stays_on e k = record { model = k.model ∙ h.model; frames = k.frames ∙ h.frames }
 
 module _ {S : Type 0} (frame : S → Frame) (sets : S → ℕ → ℕ → Bool) (b : Bench S) (cs : List Call) where
-  pub ran_none : (got : List Answer) → Ran frame sets b b cs got 0
+  pub ran_none : (got : List (Result Answer Fault)) → Ran frame sets b b cs got 0
   ran_none got =
       let M = bench_table b in
       let F = frame b.store in
@@ -52,7 +53,7 @@ module _ {S : Type 0} (frame : S → Frame) (sets : S → ℕ → ℕ → Bool) 
         keeps = λ k l. absurd (omega arith);
       }
 
-  module _ (d f : Bench S) (got : List Answer) (n : ℕ) (a : Answer) (room : n < length got) (ran : Ran frame sets b d cs got n)
+  module _ (d f : Bench S) (got : List (Result Answer Fault)) (n : ℕ) (a : Result Answer Fault) (room : n < length got) (ran : Ran frame sets b d cs got n)
       (says : (e : Entry) → Matches frame sets d e → Says (bench_table d) (frame d.store) e (get_or cs n a_call) a) (left : Left frame sets d f (get_or cs n a_call)) where
     here : Stays frame b d
     here = subst (Stays frame b) ran.ends (ran.stays n (omega arith))
@@ -79,7 +80,7 @@ module _ {S : Type 0} (frame : S → Frame) (sets : S → ℕ → ℕ → Bool) 
         let same : n ≡ k = omega arith in
         let Q : ℕ → Type 0 = λ i. EntryAfter (bench_table b) (frame b.store) e cs i m in
         let P : ℕ → Type 0 = λ i. Says (bench_table b) (frame b.store) m (get_or cs i a_call) (get_or (set got n a) i an_answer) in
-        let A : Answer → Type 0 = λ y. Says (bench_table b) (frame b.store) m (get_or cs n a_call) y in
+        let A : Result Answer Fault → Type 0 = λ y. Says (bench_table b) (frame b.store) m (get_or cs n a_call) y in
         let there = moved frame b d here (λ M F. Says M F m (get_or cs n a_call) a) (says m (at_end e m h (subst Q (sym same) q))) in
         subst P same (subst A (sym (get_or-set_same got n a an_answer room)) there))
         (cases_lt k n)
@@ -130,14 +131,5 @@ module _ {S : Type 0} (frame : S → Frame) (sets : S → ℕ → ℕ → Bool) 
       keeps = keeps_more;
     })
 
-pub behind_more : (got old : List Answer) (i : ℕ) (a : Answer) → drop i got ≡ drop i old → drop (i + 1) (set got i a) ≡ drop (i + 1) old
+pub behind_more : (got old : List (Result Answer Fault)) (i : ℕ) (a : Result Answer Fault) → drop i got ≡ drop i old → drop (i + 1) (set got i a) ≡ drop (i + 1) old
 behind_more got old i a h = drop-set-lt (i + 1) got i a (omega arith) ∙ sym (drop-drop 1 i got) ∙ ap (drop 1) h ∙ drop-drop 1 i old
-
-module _ {S : Type 0} (frame : S → Frame) (sets : S → ℕ → ℕ → Bool) (b d f : Bench S) (cs : List Call) (got new : List Answer) (i : ℕ) (room : i < length got) (h : Stepped frame sets d f (get_or cs i a_call) got new i) where
-  pub ran_step : Ran frame sets b d cs got i → Ran frame sets b f cs new (i + 1)
-  ran_step ran =
-      subst (λ xs. Ran frame sets b f cs xs (i + 1)) (sym h.wrote)
-      (ran_more frame sets b cs d f got i h.answer room ran h.says h.left)
-
-  pub behind_step : (old : List Answer) → drop i got ≡ drop i old → drop (i + 1) new ≡ drop (i + 1) old
-  behind_step old k = ap (drop (i + 1)) h.wrote ∙ behind_more got old i h.answer k

@@ -31,7 +31,7 @@ pub record Held {S : Type 0} (frame : S → Frame) (sets : S → ℕ → ℕ →
   pub unaltered : (k : ℕ) → k < n → ((a : Meaning) → Accepted M (frame given) (slice_index_or cs k a_call) a → ⊥)
       → (j c : ℕ) → sets (stores (suc k)) j c ≡ sets (stores k) j c
 
-pub record Law {S : Type 0} (frame : S → Frame) (sets : S → ℕ → ℕ → Bool) (M : Table) (given : S) (cs : List Call) (got : List Answer) (n : ℕ) : Type 0 where
+pub record Law {S : Type 0} (frame : S → Frame) (sets : S → ℕ → ℕ → Bool) (M : Table) (given : S) (cs : List Call) (got : List (Result Answer Fault)) (n : ℕ) : Type 0 where
   pub answers : Told M (frame given) None cs got n
   pub held : Held frame sets M given cs n
   pub same_answers : SameAnswers M (frame given) cs got n
@@ -42,7 +42,7 @@ abbrev pub AskedHolds : Table → Frame → List Call → ℕ → ℕ → ℕ �
 AskedHolds M F cs n s c r = (d : Entry) → EntryAfter M F None cs n d → Says M F d (call.Holds s c) (holds_as r)
 
 pub record Audited {S T : Type 0} (frame : S → Frame) (sets : S → ℕ → ℕ → Bool) (frame' : T → Frame) (sets' : T → ℕ → ℕ → Bool) (M : Table)
-    (first : S) (cs : List Call) (got : List Answer) (n : ℕ) (second : T) (ds : List Call) (got' : List Answer) (m : ℕ)
+    (first : S) (cs : List Call) (got : List (Result Answer Fault)) (n : ℕ) (second : T) (ds : List Call) (got' : List (Result Answer Fault)) (m : ℕ)
     (s c : ℕ) (r q : Result Bool Fault) : Type 0 where
   pub first_law : Law frame sets M first cs got n
   pub second_law : Law frame' sets' M second ds got' m

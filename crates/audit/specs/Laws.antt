@@ -12,7 +12,7 @@
 --                     universes
 --
 -- Assumes nothing.
-use Rattle.std.specs.Prelude.{◌≡◌, ℕ, zero, suc, ◌+◌, ◌<◌, ◌≤◌, Bool, true, ◌↔◌, List, length, Some, None, Option, Result, slice_index, slice_index_or}
+use Rattle.std.specs.Prelude.{◌≡◌, ℕ, zero, suc, ◌+◌, ◌<◌, ◌≤◌, Bool, true, ◌↔◌, List, length, Some, None, Ok, Option, Result, slice_index, slice_index_or}
 use Rattle.logic.specs.Codes.{Includes}
 use Rattle.logic.specs.Table.{Table}
 use Rattle.logic.specs.Existential.{Existential}
@@ -27,7 +27,7 @@ use Rattle.bench.specs.declared.fault.Fault.{Fault}
 use Rattle.bench.specs.Questions.{Names}
 use Rattle.audit.specs.Runs.{a_call, an_answer, Quiet, LastAccepted}
 
-abbrev pub SameAnswers : Table → Frame → List Call → List Answer → ℕ → Type 0
+abbrev pub SameAnswers : Table → Frame → List Call → List (Result Answer Fault) → ℕ → Type 0
 SameAnswers M F cs got n =
     (i j : ℕ) → i < j → j < n → slice_index_or cs i a_call ≡ slice_index_or cs j a_call → Quiet M F cs (suc i) j
     → slice_index_or got i an_answer ≡ slice_index_or got j an_answer
@@ -36,22 +36,22 @@ abbrev pub place : List ℕ → ℕ → ℕ
 place xs zero = 0
 place xs (suc k) = slice_index xs k + 1
 
-pub record Carried (M : Table) (F : Frame) (cs : List Call) (got : List Answer) (n : ℕ) (ask : ℕ → Call) (said : Option ℕ → Answer) (xs : List ℕ) : Type 0 where
+pub record Carried (M : Table) (F : Frame) (cs : List Call) (got : List (Result Answer Fault)) (n : ℕ) (ask : ℕ → Call) (said : Option ℕ → Answer) (xs : List ℕ) : Type 0 where
   pub at : ℕ → ℕ
   pub ascends : (k : ℕ) → k < length xs → at k < at (suc k)
   pub inside : at (length xs) < n
   pub asks : (k : ℕ) → k ≤ length xs → slice_index_or cs (at k) a_call ≡ ask (place xs k)
-  pub names : (k : ℕ) → k < length xs → slice_index_or got (at k) an_answer ≡ said (Some (slice_index xs k))
-  pub ends : slice_index_or got (at (length xs)) an_answer ≡ said None
+  pub names : (k : ℕ) → k < length xs → slice_index_or got (at k) an_answer ≡ Ok (said (Some (slice_index xs k)))
+  pub ends : slice_index_or got (at (length xs)) an_answer ≡ Ok (said None)
   pub quiet : Quiet M F cs (at 0) (at (length xs))
 
-abbrev pub ListingNames : Table → Frame → List Call → List Answer → ℕ → Type 0
+abbrev pub ListingNames : Table → Frame → List Call → List (Result Answer Fault) → ℕ → Type 0
 ListingNames M F cs got n =
     (s : ℕ) (xs : List ℕ) (h : Carried M F cs got n (call.Next s) answer.Next xs)
     → (a : Meaning) → LastAccepted M F cs (h.at 0) a
     → Names (Listed M F.universe a.formula s) xs
 
-abbrev pub LeastLists : Table → Frame → List Call → List Answer → ℕ → Type 0
+abbrev pub LeastLists : Table → Frame → List Call → List (Result Answer Fault) → ℕ → Type 0
 LeastLists M F cs got n =
     (s : ℕ) (xs : List ℕ) (h : Carried M F cs got n (call.Least s) answer.Least xs)
     → (a : Meaning) → LastAccepted M F cs (h.at 0) a → Existential a.formula

@@ -8,10 +8,11 @@
 --   Told           each of the first n answers is what the ledger says to its call
 --
 -- Assumes nothing.
-use Rattle.std.specs.Prelude.{◌≡◌, ℕ, suc, ◌<◌, ◌≤◌, ◌⊎◌, List, Some, slice_index_or}
+use Rattle.std.specs.Prelude.{◌≡◌, ℕ, suc, ◌<◌, ◌≤◌, ◌⊎◌, List, Some, Ok, Result, slice_index_or}
 use Rattle.logic.specs.Table.{Table}
 use Rattle.store.specs.Frames.{Frame}
 use Rattle.formula.specs.Wholes.{Meaning}
+use Rattle.bench.specs.declared.fault.Fault.{Fault}
 use Rattle.bench.specs.declared.call.Call.{Call}
 use Rattle.bench.specs.declared.call.Call.TheVariants as call
 use Rattle.bench.specs.declared.call.Answer.{Answer}
@@ -21,8 +22,8 @@ use Rattle.bench.specs.Ledger.{Entry, Says, Accepted}
 abbrev pub a_call : Call
 a_call = call.Holds 0 0
 
-abbrev pub an_answer : Answer
-an_answer = answer.Rounds 0
+abbrev pub an_answer : Result Answer Fault
+an_answer = Ok (answer.Rounds 0)
 
 abbrev pub Quiet : Table → Frame → List Call → ℕ → ℕ → Type 0
 Quiet M F cs i j = (k : ℕ) → i ≤ k → k < j → (a : Meaning) → Accepted M F (slice_index_or cs k a_call) a → ⊥
@@ -36,7 +37,7 @@ pub record LastAccepted (M : Table) (F : Frame) (cs : List Call) (n : ℕ) (a : 
 abbrev pub EntryAfter : Table → Frame → Entry → List Call → ℕ → Entry → Type 0
 EntryAfter M F e cs n d = ((a : Meaning) × LastAccepted M F cs n a × (d ≡ Some a)) ⊎ (Quiet M F cs 0 n × (d ≡ e))
 
-abbrev pub Told : Table → Frame → Entry → List Call → List Answer → ℕ → Type 0
+abbrev pub Told : Table → Frame → Entry → List Call → List (Result Answer Fault) → ℕ → Type 0
 Told M F e cs got n =
     (k : ℕ) → k < n → (d : Entry) → EntryAfter M F e cs k d → Says M F d (slice_index_or cs k a_call) (slice_index_or got k an_answer)
 

@@ -24,14 +24,15 @@ pub struct Outcomes {
 }
 
 // Opens a bench over each store, makes as many calls on it as answers fit, and asks holds of both.
+// Calls and answers are apart: what is left behind a `&mut` in a struct could be named only by its place there.
 pub fn audit<S: Store + Drop, T: Store + Drop>(
     model: &Model,
     first: S,
     first_calls: &[Call],
-    first_answers: &mut [Answer],
+    first_answers: &mut [Result<Answer, Fault>],
     second: T,
     second_calls: &[Call],
-    second_answers: &mut [Answer],
+    second_answers: &mut [Result<Answer, Fault>],
     state: usize,
     code: usize,
 ) -> Outcomes
@@ -51,7 +52,7 @@ pub fn run_new<S: Store + Drop>(
     model: &Model,
     store: S,
     calls: &[Call],
-    answers: &mut [Answer],
+    answers: &mut [Result<Answer, Fault>],
     state: usize,
     code: usize,
 ) -> Outcome
@@ -63,7 +64,6 @@ pub fn run_new<S: Store + Drop>(
     let mut bench = Bench::open(model, store);
     let count = run(&mut bench, calls, answers);
     let holds = bench.holds(state, code);
-    let _ = bench.into_store();
     Outcome {
         calls: count,
         holds,

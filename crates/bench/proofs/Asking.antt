@@ -1,5 +1,6 @@
 -- From what the store answers to what the ledger says. Assumes nothing.
-use Rattle.std.proofs.Common.{◌≡◌, ℕ, ◌+◌, ◌*◌, ◌<◌, ◌≤◌, Bool, true, false, cond, ltb, Some, None, Ok, Err, Decides, Option, Result, sym, refl, ap, ◌∙◌, subst, inl, inr, ⊎_elim, arith}
+use Rattle.std.proofs.Common.{◌≡◌, ℕ, ◌+◌, ◌*◌, ◌<◌, ◌≤◌, Bool, true, cond, ltb, Some, None, Ok, Err, Decides, Option, Result, sym, refl, ap, ◌∙◌, subst, inl, inr, ⊎_elim, arith}
+use Rattle.std.specs.Result.{result_map_both, MatchResult, IsErrAnd}
 use Rattle.std.proofs.lemmas.Nat.{mul-le}
 use Rattle.std.proofs.lemmas.Bool.{cases_lt, lt-ltb, le-ltb, lt-leb, cond-true, cond-false, both_ways}
 use Rattle.logic.specs.Formulas as formulas
@@ -24,11 +25,10 @@ use Rattle.bench.specs.declared.call.Call.{Call}
 use Rattle.bench.specs.declared.call.Call.TheVariants as call
 use Rattle.bench.specs.declared.call.Answer.{Answer}
 use Rattle.bench.specs.declared.call.Answer.TheVariants as answer
-use Rattle.bench.specs.Ledger.{Entry, formula_of, state_of, Says, holds_as, next_as, count_as, smallest_as, least_as}
+use Rattle.bench.specs.Ledger.{Entry, formula_of, state_of, Applies, Value, Says, answered, holds_as, next_as, count_as, smallest_as, least_as}
 use Rattle.bench.specs.Matching.{bench_table, state_set, Backs, Matches}
-use Rattle.bench.specs.Passing.{Passed}
 use Rattle.bench.proofs.Members.{first_from, fewest_from, many_from, least_from}
-use Rattle.bench.proofs.Refusing.{refuses_blank, refuses_state, refuses_code, refuses_place, unrefused}
+use Rattle.bench.proofs.Refusing.{refuses_place, unrefused}
 
 some_nodes : (f : formulas.Formula) → 1 ≤ formulas.nodes f
 some_nodes formulas.truth = omega arith
@@ -68,31 +68,22 @@ start_high F i p x inside e =
     let z : ◌≡◌ {A = ℕ} 0 1 = cc in absurd (omega arith))
     (cases_lt (frame_codes F) p)
 
+-- the store's answer, its refusal told as one of the bench's
+abbrev pub told : {X : Type 0} → Fault → Result X stores.Fault → Result X Fault
+told n r = result_map_both (λ x. x) (λ _. n) r
+
+pub told_from : {X : Type 0} (n : Fault) (r : Result X stores.Fault) (y : Result X Fault)
+    → MatchResult r (λ x. y ≡ Ok x) (λ _. IsErrAnd y (λ m. m ≡ n)) → y ≡ told n r
+told_from n (Ok x) y h = h
+told_from n (Err x) (Ok y) h = absurd h
+told_from n (Err x) (Err m) h = ap Err h
+
 module _ {S : Type 0} (frame : S → Frame) (sets : S → ℕ → ℕ → Bool) (b : Bench S) where
   abbrev found_set : ℕ → Result ℕ Fault
   found_set s = Ok (result_set (bench_table b).states s)
 
-  -- no set is found for the state: the ledger refuses by the same number
-  pub unset : (e : Entry) → Matches frame sets b e → (x : Call) (s : ℕ) → state_of x ≡ Some s → formula_of x ≡ None
-      → (n : Fault) → Err n ≡ state_set b s → Says (bench_table b) (frame b.store) e x (answer.Refused n)
-  unset None h x s at no_formula n is =
-      let out : state_set b s ≡ Err NothingJudged = cond-false _ _ _ h in
-      let same : n ≡ NothingJudged = cc in
-      inl (NothingJudged, refuses_blank (bench_table b) (frame b.store) x s at no_formula, ap answer.Refused same)
-  unset (Some a) h x s at no_formula n is =
-      let past = cond-true b.judged (cond (ltb s (bench_table b).states) (Ok (result_set (bench_table b).states s)) (Err NoSuchState)) (Err NothingJudged) h.was_judged in
-      ⊎_elim
-      (λ l.
-      let found = cond-true (ltb s (bench_table b).states) (found_set s) (Err NoSuchState) (lt-ltb s (bench_table b).states l) in
-      let z : ◌≡◌ {A = ℕ} 0 1 = cc in absurd (omega arith))
-      (λ l.
-      let out = cond-false (ltb s (bench_table b).states) (found_set s) (Err NoSuchState) (le-ltb s (bench_table b).states l) in
-      let same : n ≡ NoSuchState = cc in
-      inl (NoSuchState, refuses_state (bench_table b) (frame b.store) x s at no_formula a l, ap answer.Refused same))
-      (cases_lt s (bench_table b).states)
-
   -- a set is found for the state: a formula has been judged, and there is such a state
-  pub found : (e : Entry) → Matches frame sets b e → (s i : ℕ) → Ok i ≡ state_set b s → (x : Call) (y : Answer)
+  pub found : (e : Entry) → Matches frame sets b e → (s i : ℕ) → Ok i ≡ state_set b s → (x : Call) (y : Result Answer Fault)
       → ((a : Meaning) → Backs frame sets b a → s < (bench_table b).states → result_set (bench_table b).states s ≡ i → Says (bench_table b) (frame b.store) (Some a) x y)
       → Says (bench_table b) (frame b.store) e x y
   found None h s i is x y then =
@@ -117,93 +108,75 @@ module _ {S : Type 0} (frame : S → Frame) (sets : S → ℕ → ℕ → Bool) 
     lists : (c : ℕ) → Decides (sets b.store i c) (Listed (bench_table b) (frame b.store).universe a.formula s c)
     lists c = subst (λ j. Decides (sets b.store j c) (Listed (bench_table b) (frame b.store).universe a.formula s c)) is (h.lists s c state)
 
-    next_backed : (p : ℕ) (o : Option ℕ) → Answers (Ok o) (set_and_start (frame b.store) i p) (Least (sets b.store i) p) → Says (bench_table b) (frame b.store) (Some a) (call.Next s p) (answer.Next o)
-    next_backed p o r =
-        let q = ok_answers o (Least (sets b.store i) p) (set_and_start (frame b.store) i p) r in
-        let low = start_low (frame b.store) i p inside q.0 in
-        inr (
-          unrefused (bench_table b) (frame b.store) (call.Next s p) s refl refl a state (λ k. k) (λ k. omega arith),
-          (o, refl, first_from (sets b.store i) (Listed (bench_table b) (frame b.store).universe a.formula s) lists p o q.1),
-        )
+    module _ (x : Call) (at : state_of x ≡ Some s) (no_formula : formula_of x ≡ None) (no_code : Applies (bench_table b) (frame b.store) (Some a) x NotInUniverse → ⊥) where
+      -- the store refuses the call where the place is too high, as the ledger does
+      start_passed : (p : ℕ) (A : Option ℕ → Answer) (P : Option ℕ → Type 0)
+          → (frame_codes (frame b.store) < p → Applies (bench_table b) (frame b.store) (Some a) x PlaceTooHigh)
+          → (Applies (bench_table b) (frame b.store) (Some a) x PlaceTooHigh → frame_codes (frame b.store) < p)
+          → ((o : Option ℕ) → P o → Value (bench_table b) (frame b.store) (Some a) x (Ok (A o)))
+          → (r : Result (Option ℕ) stores.Fault) → Answers r (set_and_start (frame b.store) i p) P
+          → Says (bench_table b) (frame b.store) (Some a) x (answered A (told PlaceTooHigh r))
+      start_passed p A P applies applied value (Ok o) h =
+          let q = ok_answers o P (set_and_start (frame b.store) i p) h in
+          let low = start_low (frame b.store) i p inside q.0 in
+          inr (
+            unrefused (bench_table b) (frame b.store) x s at no_formula a state no_code (λ k. let high = applied k in omega arith),
+            value o q.1,
+          )
+      start_passed p A P applies applied value (Err y) h =
+          let high = start_high (frame b.store) i p y inside (err_answers y (set_and_start (frame b.store) i p) P h) in
+          inl (PlaceTooHigh, refuses_place (bench_table b) (frame b.store) x s at no_formula a state no_code (applies high), refl)
 
-    next_high : {X : Type 0} (p : ℕ) (x : stores.Fault) (P : X → Type 0) → Answers (Err x) (set_and_start (frame b.store) i p) P → Says (bench_table b) (frame b.store) (Some a) (call.Next s p) (answer.Refused PlaceTooHigh)
-    next_high p x P r =
-        let high = start_high (frame b.store) i p x inside (err_answers x (set_and_start (frame b.store) i p) P r) in
-        inl (PlaceTooHigh, refuses_place (bench_table b) (frame b.store) (call.Next s p) s refl refl a state (λ k. k) high, refl)
+      -- neither the store nor the ledger refuses the call
+      sure_passed : {X : Type 0} (A : X → Answer) (P : X → Type 0)
+          → (Applies (bench_table b) (frame b.store) (Some a) x PlaceTooHigh → ⊥)
+          → ((v : X) → P v → Value (bench_table b) (frame b.store) (Some a) x (Ok (A v)))
+          → (o : Option stores.Fault) → o ≡ None → (r : Result X stores.Fault) → Answers r o P
+          → Says (bench_table b) (frame b.store) (Some a) x (answered A (told TooFewSets r))
+      sure_passed A P no_place value o none (Ok v) h =
+          inr (
+            unrefused (bench_table b) (frame b.store) x s at no_formula a state no_code no_place,
+            value v (ok_answers v P o h).1,
+          )
+      sure_passed A P no_place value o none (Err y) h =
+          let fault = err_answers y o P h in
+          let z : ◌≡◌ {A = ℕ} 0 1 = cc in absurd (omega arith)
 
-    least_backed : (p : ℕ) (o : Option ℕ) → Answers (Ok o) (set_and_start (frame b.store) i p) (LeastMinimal (frame b.store).actions (frame b.store).variables (sets b.store i) p) → Says (bench_table b) (frame b.store) (Some a) (call.Least s p) (answer.Least o)
-    least_backed p o r =
-        let q = ok_answers o (LeastMinimal (frame b.store).actions (frame b.store).variables (sets b.store i) p) (set_and_start (frame b.store) i p) r in
-        let low = start_low (frame b.store) i p inside q.0 in
-        inr (
-          unrefused (bench_table b) (frame b.store) (call.Least s p) s refl refl a state (λ k. k) (λ k. omega arith),
-          (o, refl, least_from (sets b.store i) (Listed (bench_table b) (frame b.store).universe a.formula s) lists (frame b.store).actions (frame b.store).variables p o q.1),
-        )
+    abbrev listed : ℕ → Type 0
+    listed = Listed (bench_table b) (frame b.store).universe a.formula s
 
-    least_high : {X : Type 0} (p : ℕ) (x : stores.Fault) (P : X → Type 0) → Answers (Err x) (set_and_start (frame b.store) i p) P → Says (bench_table b) (frame b.store) (Some a) (call.Least s p) (answer.Refused PlaceTooHigh)
-    least_high p x P r =
-        let high = start_high (frame b.store) i p x inside (err_answers x (set_and_start (frame b.store) i p) P r) in
-        inl (PlaceTooHigh, refuses_place (bench_table b) (frame b.store) (call.Least s p) s refl refl a state (λ k. k) high, refl)
+    pub next_passed : (p : ℕ) (r : Result (Option ℕ) stores.Fault) → Answers r (set_and_start (frame b.store) i p) (Least (sets b.store i) p)
+        → Says (bench_table b) (frame b.store) (Some a) (call.Next s p) (next_as (told PlaceTooHigh r))
+    next_passed p r h =
+        start_passed (call.Next s p) refl refl (λ k. k) p answer.Next (Least (sets b.store i) p) (λ k. k) (λ k. k)
+        (λ o k. (o, refl, first_from (sets b.store i) listed lists p o k))
+        r h
 
-    -- a call on the one set alone is not refused
-    never : {X : Type 0} (x : stores.Fault) (P : X → Type 0) → Answers (Err x) (one_set (frame b.store) i) P → ⊥
-    never x P r =
-        let no_fault = one_set_none (frame b.store) i inside in
-        let fault = err_answers x (one_set (frame b.store) i) P r in
-        let z : ◌≡◌ {A = ℕ} 0 1 = cc in omega arith
+    pub least_passed : (p : ℕ) (r : Result (Option ℕ) stores.Fault) → Answers r (set_and_start (frame b.store) i p) (LeastMinimal (frame b.store).actions (frame b.store).variables (sets b.store i) p)
+        → Says (bench_table b) (frame b.store) (Some a) (call.Least s p) (least_as (told PlaceTooHigh r))
+    least_passed p r h =
+        start_passed (call.Least s p) refl refl (λ k. k) p answer.Least (LeastMinimal (frame b.store).actions (frame b.store).variables (sets b.store i) p) (λ k. k) (λ k. k)
+        (λ o k. (o, refl, least_from (sets b.store i) listed lists (frame b.store).actions (frame b.store).variables p o k))
+        r h
 
-    count_backed : ((c : ℕ) → sets b.store i c ≡ true → c < frame_codes (frame b.store)) → (n : ℕ) → Answers (Ok n) (one_set (frame b.store) i) (λ m. m ≡ number (sets b.store i) (frame_codes (frame b.store))) → Says (bench_table b) (frame b.store) (Some a) (call.Count s) (answer.Count n)
-    count_backed small n r =
-        let q = ok_answers n (λ m. m ≡ number (sets b.store i) (frame_codes (frame b.store))) (one_set (frame b.store) i) r in
-        inr (
-          unrefused (bench_table b) (frame b.store) (call.Count s) s refl refl a state (λ k. k) (λ k. k),
-          (n, refl, many_from (sets b.store i) (Listed (bench_table b) (frame b.store).universe a.formula s) lists n (frame_codes (frame b.store)) small q.1),
-        )
+    pub count_passed : ((c : ℕ) → sets b.store i c ≡ true → c < frame_codes (frame b.store)) → (r : Result ℕ stores.Fault) → Answers r (one_set (frame b.store) i) (λ m. m ≡ number (sets b.store i) (frame_codes (frame b.store)))
+        → Says (bench_table b) (frame b.store) (Some a) (call.Count s) (count_as (told TooFewSets r))
+    count_passed small r h =
+        sure_passed (call.Count s) refl refl (λ k. k) answer.Count (λ m. m ≡ number (sets b.store i) (frame_codes (frame b.store))) (λ k. k)
+        (λ n k. (n, refl, many_from (sets b.store i) listed lists n (frame_codes (frame b.store)) small k))
+        (one_set (frame b.store) i) (one_set_none (frame b.store) i inside) r h
 
-    smallest_backed : (o : Option ℕ) → Answers (Ok o) (one_set (frame b.store) i) (Smallest (sets b.store i)) → Says (bench_table b) (frame b.store) (Some a) (call.Smallest s) (answer.Smallest o)
-    smallest_backed o r =
-        let q = ok_answers o (Smallest (sets b.store i)) (one_set (frame b.store) i) r in
-        inr (
-          unrefused (bench_table b) (frame b.store) (call.Smallest s) s refl refl a state (λ k. k) (λ k. k),
-          (o, refl, fewest_from (sets b.store i) (Listed (bench_table b) (frame b.store).universe a.formula s) lists o q.1),
-        )
+    pub smallest_passed : (r : Result (Option ℕ) stores.Fault) → Answers r (one_set (frame b.store) i) (Smallest (sets b.store i))
+        → Says (bench_table b) (frame b.store) (Some a) (call.Smallest s) (smallest_as (told TooFewSets r))
+    smallest_passed r h =
+        sure_passed (call.Smallest s) refl refl (λ k. k) answer.Smallest (Smallest (sets b.store i)) (λ k. k)
+        (λ o k. (o, refl, fewest_from (sets b.store i) listed lists o k))
+        (one_set (frame b.store) i) (one_set_none (frame b.store) i inside) r h
 
-    pub holds_outside : (c : ℕ) → (frame b.store).universe c ≡ false → Says (bench_table b) (frame b.store) (Some a) (call.Holds s c) (answer.Refused NotInUniverse)
-    holds_outside c out = inl (NotInUniverse, refuses_code (bench_table b) (frame b.store) (call.Holds s c) s refl refl a state out, refl)
-
-    holds_backed : (c : ℕ) (v : Bool) → (frame b.store).universe c ≡ true → Answers (Ok v) (set_and_code (frame b.store) i c) (λ w. w ≡ sets b.store i c) → Says (bench_table b) (frame b.store) (Some a) (call.Holds s c) (answer.Holds v)
-    holds_backed c v u r =
-        let q = ok_answers v (λ w. w ≡ sets b.store i c) (set_and_code (frame b.store) i c) r in
-        let D : Bool → Type 0 = λ w. Decides w (Listed (bench_table b) (frame b.store).universe a.formula s c) in
-        inr (
-          unrefused (bench_table b) (frame b.store) (call.Holds s c) s refl refl a state (λ k. both_ways ((frame b.store).universe c) k u) (λ k. k),
-          (v, refl, subst D (sym q.1) (lists c)),
-        )
-
-    holds_never : {X : Type 0} (c : ℕ) (x : stores.Fault) (P : X → Type 0) → c < frame_codes (frame b.store) → Answers (Err x) (set_and_code (frame b.store) i c) P → ⊥
-    holds_never c x P low r =
-        let no_fault = set_and_code_none (frame b.store) i c inside low in
-        let fault = err_answers x (set_and_code (frame b.store) i c) P r in
-        let z : ◌≡◌ {A = ℕ} 0 1 = cc in omega arith
-
-    pub next_passed : (p : ℕ) (r : Result (Option ℕ) Fault) → Passed r PlaceTooHigh (set_and_start (frame b.store) i p) (Least (sets b.store i) p) → Says (bench_table b) (frame b.store) (Some a) (call.Next s p) (next_as r)
-    next_passed p (Ok o) h = next_backed p o h
-    next_passed p (Err n) h =
-        subst (λ m. Says (bench_table b) (frame b.store) (Some a) (call.Next s p) (answer.Refused m)) (sym h.0) (next_high p h.1.0 (Least (sets b.store i) p) h.1.1)
-
-    pub least_passed : (p : ℕ) (r : Result (Option ℕ) Fault) → Passed r PlaceTooHigh (set_and_start (frame b.store) i p) (LeastMinimal (frame b.store).actions (frame b.store).variables (sets b.store i) p) → Says (bench_table b) (frame b.store) (Some a) (call.Least s p) (least_as r)
-    least_passed p (Ok o) h = least_backed p o h
-    least_passed p (Err n) h =
-        subst (λ m. Says (bench_table b) (frame b.store) (Some a) (call.Least s p) (answer.Refused m)) (sym h.0) (least_high p h.1.0 (LeastMinimal (frame b.store).actions (frame b.store).variables (sets b.store i) p) h.1.1)
-
-    pub count_passed : ((c : ℕ) → sets b.store i c ≡ true → c < frame_codes (frame b.store)) → (r : Result ℕ Fault) → Passed r TooFewSets (one_set (frame b.store) i) (λ m. m ≡ number (sets b.store i) (frame_codes (frame b.store))) → Says (bench_table b) (frame b.store) (Some a) (call.Count s) (count_as r)
-    count_passed small (Ok n) h = count_backed small n h
-    count_passed small (Err n) h = absurd (never h.1.0 (λ m. m ≡ number (sets b.store i) (frame_codes (frame b.store))) h.1.1)
-
-    pub smallest_passed : (r : Result (Option ℕ) Fault) → Passed r TooFewSets (one_set (frame b.store) i) (Smallest (sets b.store i)) → Says (bench_table b) (frame b.store) (Some a) (call.Smallest s) (smallest_as r)
-    smallest_passed (Ok o) h = smallest_backed o h
-    smallest_passed (Err n) h = absurd (never h.1.0 (Smallest (sets b.store i)) h.1.1)
-
-    pub holds_passed : (c : ℕ) → (frame b.store).universe c ≡ true → c < frame_codes (frame b.store) → (r : Result Bool Fault) → Passed r TooFewSets (set_and_code (frame b.store) i c) (λ w. w ≡ sets b.store i c) → Says (bench_table b) (frame b.store) (Some a) (call.Holds s c) (holds_as r)
-    holds_passed c u low (Ok v) h = holds_backed c v u h
-    holds_passed c u low (Err n) h = absurd (holds_never c h.1.0 (λ w. w ≡ sets b.store i c) low h.1.1)
+    pub holds_passed : (c : ℕ) → (frame b.store).universe c ≡ true → c < frame_codes (frame b.store) → (r : Result Bool stores.Fault) → Answers r (set_and_code (frame b.store) i c) (λ w. w ≡ sets b.store i c)
+        → Says (bench_table b) (frame b.store) (Some a) (call.Holds s c) (holds_as (told TooFewSets r))
+    holds_passed c u low r h =
+        let D : Bool → Type 0 = λ w. Decides w (listed c) in
+        sure_passed (call.Holds s c) refl refl (λ k. both_ways ((frame b.store).universe c) k u) answer.Holds (λ w. w ≡ sets b.store i c) (λ k. k)
+        (λ v k. (v, refl, subst D (sym k) (lists c)))
+        (set_and_code (frame b.store) i c) (set_and_code_none (frame b.store) i c inside low) r h

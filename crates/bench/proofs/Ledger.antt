@@ -1,5 +1,5 @@
 -- The ledger says one answer to each call, and has one entry after it. Assumes nothing.
-use Rattle.std.proofs.Common.{◌≡◌, ℕ, cond, eqb, ◌⊎◌, Some, None, Option, sym, refl, ap, ◌∙◌, subst, inl, inr, ⊎_elim, arith}
+use Rattle.std.proofs.Common.{◌≡◌, ℕ, cond, eqb, ◌⊎◌, Some, None, Ok, Err, Option, Result, sym, refl, ap, ◌∙◌, subst, inl, inr, ⊎_elim, arith}
 use Rattle.std.proofs.lemmas.Bool.{cases_lt, cases_eq, cases_order}
 use Rattle.std.proofs.lemmas.Bool.Decides.{same_from_decides}
 use Rattle.logic.specs.Table.{Table, Sound}
@@ -44,23 +44,23 @@ module _ (M : Table) (F : Frame) (e : Entry) (x : Call) where
       (cases_order (fault_number n) (fault_number m))
 
 module _ (M : Table) (sound : Sound M) (F : Frame) (lawful : Lawful F) (e : Entry) where
-  value_unique : (x : Call) (a b : Answer) → Value M F e x a → Value M F e x b → a ≡ b
+  value_unique : (x : Call) (a b : Result Answer Fault) → Value M F e x a → Value M F e x b → a ≡ b
   value_unique (call.Judge f) a b h k =
       let one = rounds_one M sound F.universe (frame_codes F) (λ c u. (lawful.valuations c u).small) (meaning_of f.now).formula in
       let same : h.0 ≡ k.0 = one.2 h.0 h.2 ∙ sym (one.2 k.0 k.2) in
-      h.1 ∙ ap answer.Rounds same ∙ sym k.1
-  value_unique (call.Holds s c) a b h k = h.1 ∙ ap answer.Holds (same_from_decides h.0 k.0 h.2 k.2) ∙ sym k.1
+      h.1 ∙ ap (λ v. Ok (answer.Rounds v)) same ∙ sym k.1
+  value_unique (call.Holds s c) a b h k = h.1 ∙ ap (λ v. Ok (answer.Holds v)) (same_from_decides h.0 k.0 h.2 k.2) ∙ sym k.1
   value_unique (call.Next s p) a b h k =
-      h.1 ∙ ap answer.Next (first_unique (Lists M F e s) p h.0 k.0 h.2 k.2) ∙ sym k.1
+      h.1 ∙ ap (λ v. Ok (answer.Next v)) (first_unique (Lists M F e s) p h.0 k.0 h.2 k.2) ∙ sym k.1
   value_unique (call.Count s) a b h k =
-      h.1 ∙ ap answer.Count (many_unique (Lists M F e s) h.0 k.0 h.2 k.2) ∙ sym k.1
+      h.1 ∙ ap (λ v. Ok (answer.Count v)) (many_unique (Lists M F e s) h.0 k.0 h.2 k.2) ∙ sym k.1
   value_unique (call.Smallest s) a b h k =
-      h.1 ∙ ap answer.Smallest (fewest_unique (Lists M F e s) h.0 k.0 h.2 k.2) ∙ sym k.1
+      h.1 ∙ ap (λ v. Ok (answer.Smallest v)) (fewest_unique (Lists M F e s) h.0 k.0 h.2 k.2) ∙ sym k.1
   value_unique (call.Least s p) a b h k =
-      h.1 ∙ ap answer.Least (first_unique (Alone F.actions F.variables (Lists M F e s)) p h.0 k.0 h.2 k.2) ∙ sym k.1
+      h.1 ∙ ap (λ v. Ok (answer.Least v)) (first_unique (Alone F.actions F.variables (Lists M F e s)) p h.0 k.0 h.2 k.2) ∙ sym k.1
 
-  pub says_unique : (x : Call) (a b : Answer) → Says M F e x a → Says M F e x b → a ≡ b
-  says_unique x a b (inl h) (inl k) = h.2 ∙ ap answer.Refused (refuses_unique M F e x h.0 k.0 h.1 k.1) ∙ sym k.2
+  pub says_unique : (x : Call) (a b : Result Answer Fault) → Says M F e x a → Says M F e x b → a ≡ b
+  says_unique x a b (inl h) (inl k) = h.2 ∙ ap Err (refuses_unique M F e x h.0 k.0 h.1 k.1) ∙ sym k.2
   says_unique x a b (inl h) (inr k) = absurd (k.0 h.0 h.1.applies)
   says_unique x a b (inr h) (inl k) = absurd (h.0 k.0 k.1.applies)
   says_unique x a b (inr h) (inr k) = value_unique x a b h.1 k.1

@@ -3,5 +3,5 @@ pub mod Ledger
 pub mod Members
 pub mod Refusing
 pub mod Asking
-pub mod Judging
+pub mod Answered
 pub mod Meanings

@@ -25,6 +25,6 @@ pub meaning_uses : (v : Formula) → Uses (meaning_of v).variables (meaning_of v
 meaning_uses v =
     let P : Meaning → Type 0 = λ m. Uses m.variables m.formula in
     ⊎_elim
-    (λ h. subst P (sym h.2) (range_uses v.actions v.variables v.properties h.0 h.1.range))
+    (λ h. subst P (sym h.2) (range_uses v.actions v.variables.count v.properties h.0 h.1.range))
     (λ h. subst P (sym h.1) tt)
     (meanings.computed v)

@@ -1,5 +1,5 @@
 -- Which refusal a question meets first. Assumes nothing.
-use Rattle.std.proofs.Common.{◌≡◌, ℕ, ◌<◌, ◌≤◌, Some, None, Option, sym, refl, subst, arith}
+use Rattle.std.proofs.Common.{◌≡◌, ℕ, ◌<◌, ◌≤◌, Some, None, Option, sym, subst, arith}
 use Rattle.logic.specs.Table.{Table}
 use Rattle.store.specs.Frames.{Frame}
 use Rattle.formula.specs.Wholes.{Meaning}
@@ -22,17 +22,6 @@ module _ {X : Type 0} (P : X → Type 0) where
 
 -- a question at the state s
 module _ (M : Table) (F : Frame) (x : Call) (s : ℕ) (at : state_of x ≡ Some s) (no_formula : formula_of x ≡ None) where
-  pub refuses_blank : Refuses M F None x NothingJudged
-  refuses_blank = record { applies = there (λ _. ◌≡◌ {A = Entry} None None) (state_of x) s at refl; first = firsts }
-    where
-      firsts : (m : Fault) → fault_number m < 22 → Applies M F None x m → ⊥
-      firsts Differ l h = not_there (λ a. Agrees F M a → ⊥) (formula_of x) no_formula h
-      firsts TooFewSets l h = not_there (λ a. Enough F M a → ⊥) (formula_of x) no_formula h
-      firsts NothingJudged l h = omega arith
-      firsts NoSuchState l h = omega arith
-      firsts NotInUniverse l h = omega arith
-      firsts PlaceTooHigh l h = omega arith
-
   module _ (a : Meaning) where
     lower : (m : Fault) → fault_number m < 23 → Applies M F (Some a) x m → ⊥
     lower Differ l h = not_there (λ a. Agrees F M a → ⊥) (formula_of x) no_formula h
@@ -44,9 +33,6 @@ module _ (M : Table) (F : Frame) (x : Call) (s : ℕ) (at : state_of x ≡ Some 
     lower NotInUniverse l h = omega arith
     lower PlaceTooHigh l h = omega arith
 
-    pub refuses_state : M.states ≤ s → Refuses M F (Some a) x NoSuchState
-    refuses_state l = record { applies = there (λ t. M.states ≤ t) (state_of x) s at l; first = lower }
-
     module _ (state : s < M.states) where
       low : (m : Fault) → fault_number m < 24 → Applies M F (Some a) x m → ⊥
       low Differ l h = lower Differ (omega arith) h
@@ -55,9 +41,6 @@ module _ (M : Table) (F : Frame) (x : Call) (s : ℕ) (at : state_of x ≡ Some 
       low NoSuchState l h = let out = there_is (λ t. M.states ≤ t) (state_of x) s at h in omega arith
       low NotInUniverse l h = omega arith
       low PlaceTooHigh l h = omega arith
-
-      pub refuses_code : Applies M F (Some a) x NotInUniverse → Refuses M F (Some a) x NotInUniverse
-      refuses_code h = record { applies = h; first = low }
 
       pub refuses_place : (Applies M F (Some a) x NotInUniverse → ⊥) → Applies M F (Some a) x PlaceTooHigh → Refuses M F (Some a) x PlaceTooHigh
       refuses_place no_code h = record { applies = h; first = firsts }

@@ -89,39 +89,39 @@ pub record Refuses (M : Table) (F : Frame) (e : Entry) (x : Call) (n : Fault) : 
 abbrev pub Unrefused : Table → Frame → Entry → Call → Type 0
 Unrefused M F e x = (n : Fault) → Applies M F e x n → ⊥
 
-abbrev pub Value : Table → Frame → Entry → Call → Answer → Type 0
-Value M F e (call.Judge f) a = (r : ℕ) × (a ≡ answer.Rounds r) × Rounds M F.universe (meaning_of f.now).formula r
-Value M F e (call.Holds s c) a = (b : Bool) × (a ≡ answer.Holds b) × Decides b (Lists M F e s c)
-Value M F e (call.Next s p) a = (o : Option ℕ) × (a ≡ answer.Next o) × First (Lists M F e s) p o
-Value M F e (call.Count s) a = (n : ℕ) × (a ≡ answer.Count n) × Many (Lists M F e s) n
-Value M F e (call.Smallest s) a = (o : Option ℕ) × (a ≡ answer.Smallest o) × Fewest (Lists M F e s) o
+abbrev pub Value : Table → Frame → Entry → Call → Result Answer Fault → Type 0
+Value M F e (call.Judge f) a = (r : ℕ) × (a ≡ Ok (answer.Rounds r)) × Rounds M F.universe (meaning_of f.now).formula r
+Value M F e (call.Holds s c) a = (b : Bool) × (a ≡ Ok (answer.Holds b)) × Decides b (Lists M F e s c)
+Value M F e (call.Next s p) a = (o : Option ℕ) × (a ≡ Ok (answer.Next o)) × First (Lists M F e s) p o
+Value M F e (call.Count s) a = (n : ℕ) × (a ≡ Ok (answer.Count n)) × Many (Lists M F e s) n
+Value M F e (call.Smallest s) a = (o : Option ℕ) × (a ≡ Ok (answer.Smallest o)) × Fewest (Lists M F e s) o
 Value M F e (call.Least s p) a =
-    (o : Option ℕ) × (a ≡ answer.Least o) × First (Alone F.actions F.variables (Lists M F e s)) p o
+    (o : Option ℕ) × (a ≡ Ok (answer.Least o)) × First (Alone F.actions F.variables (Lists M F e s)) p o
 
-abbrev pub Says : Table → Frame → Entry → Call → Answer → Type 0
+abbrev pub Says : Table → Frame → Entry → Call → Result Answer Fault → Type 0
 Says M F e x a =
-    ((n : Fault) × Refuses M F e x n × (a ≡ answer.Refused n)) ⊎ (Unrefused M F e x × Value M F e x a)
+    ((n : Fault) × Refuses M F e x n × (a ≡ Err n)) ⊎ (Unrefused M F e x × Value M F e x a)
 
-abbrev pub answered : {X : Type 0} → (X → Answer) → Result X Fault → Answer
-answered A (Ok x) = A x
-answered A (Err n) = answer.Refused n
+abbrev pub answered : {X : Type 0} → (X → Answer) → Result X Fault → Result Answer Fault
+answered A (Ok x) = Ok (A x)
+answered A (Err n) = Err n
 
-abbrev pub rounds_as : Result ℕ Fault → Answer
+abbrev pub rounds_as : Result ℕ Fault → Result Answer Fault
 rounds_as r = answered answer.Rounds r
 
-abbrev pub holds_as : Result Bool Fault → Answer
+abbrev pub holds_as : Result Bool Fault → Result Answer Fault
 holds_as r = answered answer.Holds r
 
-abbrev pub next_as : Result (Option ℕ) Fault → Answer
+abbrev pub next_as : Result (Option ℕ) Fault → Result Answer Fault
 next_as r = answered answer.Next r
 
-abbrev pub count_as : Result ℕ Fault → Answer
+abbrev pub count_as : Result ℕ Fault → Result Answer Fault
 count_as r = answered answer.Count r
 
-abbrev pub smallest_as : Result (Option ℕ) Fault → Answer
+abbrev pub smallest_as : Result (Option ℕ) Fault → Result Answer Fault
 smallest_as r = answered answer.Smallest r
 
-abbrev pub least_as : Result (Option ℕ) Fault → Answer
+abbrev pub least_as : Result (Option ℕ) Fault → Result Answer Fault
 least_as r = answered answer.Least r
 
 pub record Accepted (M : Table) (F : Frame) (x : Call) (a : Meaning) : Type 0 where

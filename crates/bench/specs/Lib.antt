@@ -3,4 +3,4 @@ pub mod Questions
 pub mod Ledger
 pub mod Matching
 pub mod Laws
-pub mod Passing
+pub mod Texts

@@ -8,20 +8,18 @@
 --   Stays        the model, and what never changes of the store, are as they were
 --   Keeps        so are every set of the store and whether something has been judged
 --
---   Evaluates    a formula is evaluated into the store: the model stays, and where it is not refused it counts as judged
 --   Left         a call leaves the bench d where b was: it matches the entry after the call, whatever entry it matched before,
 --                model and frame stay, and unless the call is an accepted judge every set and the judgement are kept
 --
 -- frame and sets say of a store what it is over and which codes its sets have. Assumes nothing.
-use Rattle.std.specs.Prelude.{◌≡◌, ℕ, ◌<◌, Bool, true, false, cond, ◌||◌, is_ok, Some, None, Ok, Err, Decides, Result, nat_lt}
+use Rattle.std.specs.Prelude.{◌≡◌, ℕ, ◌<◌, Bool, true, false, cond, Some, None, Ok, Err, Decides, Result, nat_lt}
 use Rattle.logic.specs.Table.{Table}
 use Rattle.logic.specs.Listing.{Listed}
 use Rattle.model.specs.Values.{table_of}
 use Rattle.store.specs.Frames.{Frame}
 use Rattle.evaluate.specs.Layout.{universe_set, result_set}
 use Rattle.formula.specs.Wholes.{Meaning}
-use Rattle.evaluate.specs.declared.fault.EvaluateFault.{EvaluateFault}
-use Rattle.evaluate.specs.Evaluation.{Enough, Answered}
+use Rattle.evaluate.specs.Evaluation.{Enough}
 use Rattle.bench.specs.declared.fault.Fault.{Fault}
 use Rattle.bench.specs.declared.fault.Fault.TheVariants.{NothingJudged, NoSuchState}
 use Rattle.bench.specs.declared.bench.Bench.{Bench}
@@ -49,7 +47,7 @@ abbrev pub Matches : {S : Type 0} → (S → Frame) → (S → ℕ → ℕ → B
 Matches frame sets b None = b.judged ≡ false
 Matches frame sets b (Some a) = Backs frame sets b a
 
-abbrev pub ByLedger : {S : Type 0} → (S → Frame) → (S → ℕ → ℕ → Bool) → Bench S → Call → Answer → Type 0
+abbrev pub ByLedger : {S : Type 0} → (S → Frame) → (S → ℕ → ℕ → Bool) → Bench S → Call → Result Answer Fault → Type 0
 ByLedger frame sets b x a = (e : Entry) → Matches frame sets b e → Says (bench_table b) (frame b.store) e x a
 
 pub record Stays {S : Type 0} (frame : S → Frame) (b d : Bench S) : Type 0 where
@@ -60,11 +58,6 @@ pub record Keeps {S : Type 0} (frame : S → Frame) (sets : S → ℕ → ℕ �
   pub stays : Stays frame b d
   pub members : (j c : ℕ) → sets d.store j c ≡ sets b.store j c
   pub judgement : d.judged ≡ b.judged
-
-pub record Evaluates {S : Type 0} (frame : S → Frame) (sets : S → ℕ → ℕ → Bool) (b d : Bench S) (m : Meaning) (r : Result ℕ EvaluateFault) : Type 0 where
-  pub model : d.model.now ≡ b.model.now
-  pub answered : Answered (frame b.store) (frame d.store) (sets b.store) (sets d.store) (bench_table b) m r
-  pub judgement : d.judged ≡ (is_ok r || b.judged)
 
 pub record Left {S : Type 0} (frame : S → Frame) (sets : S → ℕ → ℕ → Bool) (b d : Bench S) (x : Call) : Type 0 where
   pub enters : (e n : Entry) → Matches frame sets b e → Enters (bench_table b) (frame b.store) e x n → Matches frame sets d n

@@ -3,36 +3,19 @@ ghost use Rattle.bench.specs.Matching.{ByLedger, Left};
 
 use crate::bench::Bench;
 use crate::call::{Answer, Call};
+use crate::fault::Fault;
 use store::calls::Store;
 
-pub fn answer<S: Store>(bench: &mut Bench<S>, call: Call) -> Answer
+pub fn answer<S: Store>(bench: &mut Bench<S>, call: Call) -> Result<Answer, Fault>
     ensures says { ByLedger S.frame S.sets bench.old call.entry result }
     ensures left { Left S.frame S.sets bench.old bench.new call.entry }
 {
     match call {
-        Call::Judge(formula) => match bench.judge(formula) {
-            Ok(rounds) => Answer::Rounds(rounds),
-            Err(fault) => Answer::Refused(fault),
-        },
-        Call::Holds(state, code) => match bench.holds(state, code) {
-            Ok(listed) => Answer::Holds(listed),
-            Err(fault) => Answer::Refused(fault),
-        },
-        Call::Next(state, from) => match bench.next(state, from) {
-            Ok(code) => Answer::Next(code),
-            Err(fault) => Answer::Refused(fault),
-        },
-        Call::Count(state) => match bench.count(state) {
-            Ok(codes) => Answer::Count(codes),
-            Err(fault) => Answer::Refused(fault),
-        },
-        Call::Smallest(state) => match bench.smallest(state) {
-            Ok(code) => Answer::Smallest(code),
-            Err(fault) => Answer::Refused(fault),
-        },
-        Call::Least(state, from) => match bench.least(state, from) {
-            Ok(code) => Answer::Least(code),
-            Err(fault) => Answer::Refused(fault),
-        },
+        Call::Judge(formula) => bench.judge(formula).map(Answer::Rounds),
+        Call::Holds(state, code) => bench.holds(state, code).map(Answer::Holds),
+        Call::Next(state, from) => bench.next(state, from).map(Answer::Next),
+        Call::Count(state) => bench.count(state).map(Answer::Count),
+        Call::Smallest(state) => bench.smallest(state).map(Answer::Smallest),
+        Call::Least(state, from) => bench.least(state, from).map(Answer::Least),
     }
 }

@@ -1,6 +1,9 @@
 // Why a call of a bench is refused.
-ghost use Rattle.std.specs.Prelude.{◌≡◌};
-ghost use Rattle.bench.specs.Faults.{fault_number};
+ghost use Rattle.std.specs.Prelude.{◌≡◌, Some};
+ghost use Rattle.bench.specs.Faults.{fault_number, fault_text, refusal_of};
+
+use evaluate::fault::EvaluateFault;
+use std::fmt;
 
 #[derive(Clone, Copy, PartialEq, Eq, Debug)]
 pub enum Fault {
@@ -24,5 +27,26 @@ impl Fault {
             Fault::NotInUniverse => 24,
             Fault::PlaceTooHigh => 25,
         }
+    }
+}
+
+// What a refused evaluation comes to.
+impl From<EvaluateFault> for Fault {
+    ghost from_gives = { λ fault told. told ≡ refusal_of fault };
+
+    fn from(fault: EvaluateFault) -> Fault {
+        match fault {
+            EvaluateFault::Differ => Fault::Differ,
+            EvaluateFault::TooFewSets => Fault::TooFewSets,
+            EvaluateFault::Store(_) => Fault::TooFewSets,
+        }
+    }
+}
+
+impl fmt::Display for Fault {
+    ghost output = { λ fault. Some (fault_text fault) };
+
+    fn fmt<W: fmt::Write>(&self, f: &mut fmt::Formatter<W>) -> fmt::Result {
+        write!(f, "refused {}", self.number())
     }
 }

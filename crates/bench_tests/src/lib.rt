@@ -33,14 +33,14 @@ mod tests {
         let mut bytes = [0xA5u8; 40];
         let safe = formula_of(b"1 Y ef Y safe");
         let calls = [Call::Judge(&safe), Call::Count(0), Call::Next(9, 9)];
-        let mut answers = [Answer::Count(7); 3];
+        let mut answers = [Ok(Answer::Count(7)); 3];
         let single = Single::open(Shape::new(2, 1)?, 3, &mut bytes)?;
         let outcome = run_new(&Model::BLANK, single, &calls, &mut answers, 0, 3);
         assert_eq!(rt; outcome.calls, 3);
-        assert!(rt; matches!(answers[0], Answer::Refused(Fault::Differ)));
-        assert!(rt; matches!(answers[1], Answer::Refused(Fault::NothingJudged)));
-        assert!(rt; matches!(answers[2], Answer::Refused(Fault::NothingJudged)));
-        assert!(rt; matches!(outcome.holds, Err(Fault::NothingJudged)));
+        assert_eq!(rt; answers[0], Err(Fault::Differ));
+        assert_eq!(rt; answers[1], Err(Fault::NothingJudged));
+        assert_eq!(rt; answers[2], Err(Fault::NothingJudged));
+        assert_eq!(rt; outcome.holds, Err(Fault::NothingJudged));
         Ok(())
     }
 
@@ -50,12 +50,12 @@ mod tests {
         let mut bytes = [0u8; 24];
         let safe = formula_of(b"1 Y ef Y safe");
         let calls = [Call::Judge(&safe), Call::Smallest(0)];
-        let mut answers = [Answer::Count(7); 2];
+        let mut answers = [Ok(Answer::Count(7)); 2];
         let single = Single::open(Shape::new(2, 1)?, 3, &mut bytes)?;
         let outcome = run_new(&display(), single, &calls, &mut answers, 0, 3);
         assert_eq!(rt; outcome.calls, 2);
-        assert!(rt; matches!(answers[0], Answer::Refused(Fault::TooFewSets)));
-        assert!(rt; matches!(answers[1], Answer::Refused(Fault::NothingJudged)));
+        assert_eq!(rt; answers[0], Err(Fault::TooFewSets));
+        assert_eq!(rt; answers[1], Err(Fault::NothingJudged));
         Ok(())
     }
 
@@ -65,27 +65,30 @@ mod tests {
         let mut bytes = [0xFFu8; 31];
         let two = formula_of(b"2 Y Z ef Y ag Z not safe");
         let safe = formula_of(b"1 Y ef Y safe");
-        let mut calls = [Call::Judge(&safe); 9];
-        calls[1] = Call::Next(0, 0);
-        calls[2] = Call::Judge(&two);
-        calls[3] = Call::Next(0, 4);
-        calls[4] = Call::Next(0, 5);
-        calls[5] = Call::Holds(1, 2);
-        calls[6] = Call::Holds(3, 3);
-        calls[7] = Call::Least(2, 0);
-        let mut answers = [Answer::Count(7); 8];
+        let calls = [
+            Call::Judge(&safe),
+            Call::Next(0, 0),
+            Call::Judge(&two),
+            Call::Next(0, 4),
+            Call::Next(0, 5),
+            Call::Holds(1, 2),
+            Call::Holds(3, 3),
+            Call::Least(2, 0),
+            Call::Judge(&safe),
+        ];
+        let mut answers = [Ok(Answer::Count(7)); 8];
         let single = Single::open(Shape::new(2, 1)?, 3, &mut bytes)?;
         let outcome = run_new(&display(), single, &calls, &mut answers, 1, 3);
         assert_eq!(rt; outcome.calls, 8);
-        assert!(rt; matches!(answers[0], Answer::Rounds(3)));
-        assert!(rt; matches!(answers[1], Answer::Next(Some(3))));
-        assert!(rt; matches!(answers[2], Answer::Refused(Fault::Differ)));
-        assert!(rt; matches!(answers[3], Answer::Next(None)));
-        assert!(rt; matches!(answers[4], Answer::Refused(Fault::PlaceTooHigh)));
-        assert!(rt; matches!(answers[5], Answer::Refused(Fault::NotInUniverse)));
-        assert!(rt; matches!(answers[6], Answer::Refused(Fault::NoSuchState)));
-        assert!(rt; matches!(answers[7], Answer::Least(Some(3))));
-        assert!(rt; matches!(outcome.holds, Ok(true)));
+        assert_eq!(rt; answers[0], Ok(Answer::Rounds(3)));
+        assert_eq!(rt; answers[1], Ok(Answer::Next(Some(3))));
+        assert_eq!(rt; answers[2], Err(Fault::Differ));
+        assert_eq!(rt; answers[3], Ok(Answer::Next(None)));
+        assert_eq!(rt; answers[4], Err(Fault::PlaceTooHigh));
+        assert_eq!(rt; answers[5], Err(Fault::NotInUniverse));
+        assert_eq!(rt; answers[6], Err(Fault::NoSuchState));
+        assert_eq!(rt; answers[7], Ok(Answer::Least(Some(3))));
+        assert_eq!(rt; outcome.holds, Ok(true));
         Ok(())
     }
 }

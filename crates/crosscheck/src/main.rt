@@ -19,42 +19,17 @@ const SHEET: &[u8] = b"1 Y ef Y safe";
 // The one valuation of the single store, Y = { key bus }, of which both benches are asked at idle in the end.
 const BOTH: usize = 3;
 
-fn print_refused(rt: &HostRuntime, fault: Fault) -> io::Result<()> {
-    let number = fault.number();
-    println!(rt; "refused {number}")
-}
-
-fn print_code(rt: &HostRuntime, call: &str, code: Option<usize>) -> io::Result<()> {
-    match code {
-        Some(c) => println!(rt; "{call} {c}"),
-        None => println!(rt; "{call} none"),
-    }
-}
-
-fn print_holds(rt: &HostRuntime, holds: bool) -> io::Result<()> {
-    if holds {
-        println!(rt; "holds yes")
-    } else {
-        println!(rt; "holds no")
-    }
-}
-
-fn print_answer(rt: &HostRuntime, answer: Answer) -> io::Result<()> {
+fn print_answer(rt: &HostRuntime, answer: Result<Answer, Fault>) -> io::Result<()> {
     match answer {
-        Answer::Refused(fault) => print_refused(rt, fault),
-        Answer::Rounds(rounds) => println!(rt; "rounds {rounds}"),
-        Answer::Holds(holds) => print_holds(rt, holds),
-        Answer::Next(code) => print_code(rt, "next", code),
-        Answer::Count(codes) => println!(rt; "count {codes}"),
-        Answer::Smallest(code) => print_code(rt, "smallest", code),
-        Answer::Least(code) => print_code(rt, "least", code),
+        Ok(said) => println!(rt; "{said}"),
+        Err(fault) => println!(rt; "{fault}"),
     }
 }
 
 fn print_outcome(
     rt: &HostRuntime,
     store: &str,
-    answers: &[Answer],
+    answers: &[Result<Answer, Fault>],
     outcome: Outcome,
 ) -> io::Result<()> {
     let calls = outcome.calls;
@@ -62,10 +37,7 @@ fn print_outcome(
     for answer in answers {
         print_answer(rt, *answer)?;
     }
-    match outcome.holds {
-        Ok(holds) => print_holds(rt, holds),
-        Err(fault) => print_refused(rt, fault),
-    }
+    print_answer(rt, outcome.holds.map(Answer::Holds))
 }
 
 fn check_both(rt: &HostRuntime, model: &Model, formula: &Formula, shape: Shape) -> io::Result<()> {
@@ -81,12 +53,11 @@ fn check_both(rt: &HostRuntime, model: &Model, formula: &Formula, shape: Shape) 
         Call::Least(1, 3),
         Call::Holds(1, 1),
     ];
-    let mut full_answers = [Answer::Count(0); 8];
-    let mut single_answers = [Answer::Count(0); 8];
+    let mut full_answers = [Ok(Answer::Count(0)); 8];
+    let mut single_answers = [Ok(Answer::Count(0)); 8];
     let full = Full::open(shape, &mut full_bytes);
-    let single = match Single::open(shape, BOTH, &mut single_bytes) {
-        Ok(opened) => opened,
-        Err(_) => return println!(rt; "no valuation"),
+    let Ok(single) = Single::open(shape, BOTH, &mut single_bytes) else {
+        return println!(rt; "no valuation");
     };
     let both = audit(
         model,

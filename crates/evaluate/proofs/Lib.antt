@@ -1,4 +1,3 @@
-mod Succeeding
 mod Booleans
 mod Arcs
 mod Stepping

@@ -1,5 +1,5 @@
 -- A walk by the rules to the end of a sheet goes over a formula, and then over what is due behind it.
-use Rattle.std.proofs.Common.{◌≡◌, ℕ, zero, suc, ◌^◌, ◌<◌, Bool, true, false, List, [], ◌∷◌, length, codes, sym, refl, ap, ◌∙◌, subst, arith}
+use Rattle.std.proofs.Common.{◌≡◌, ℕ, zero, suc, ◌^◌, ◌<◌, Bool, true, false, List, [], ◌∷◌, length, Some, None, codes, Option, sym, refl, ap, ◌∙◌, subst, arith}
 use lib.Bits.{bit_or}
 use Rattle.logic.specs.Codes.{bit}
 use Rattle.logic.specs.Formulas as logic
@@ -13,10 +13,8 @@ use Rattle.formula.specs.declared.TwoParts.{TwoParts}
 use Rattle.formula.specs.declared.TwoParts.TheVariants.{Eu, Au, Euw, Auw}
 use Rattle.formula.specs.declared.Node.{Node}
 use Rattle.formula.specs.declared.heads.Temporal.{Temporal}
-use Rattle.formula.specs.declared.braces.BraceWord.{BraceWord}
-use Rattle.formula.specs.declared.braces.BraceWord.TheVariants.{Close, Action, Unknown}
-use Rattle.formula.specs.declared.nodes.AlphaWord.{AlphaWord}
-use Rattle.formula.specs.declared.nodes.AlphaWord.TheVariants as alphas
+use Rattle.formula.specs.declared.braces.BraceOrName.{BraceOrName}
+use Rattle.formula.specs.declared.braces.BraceOrName.TheVariants.{Brace, Name}
 use Rattle.formula.specs.Nodes.{one_word, two_word, alpha_of}
 use Rattle.formula.specs.Braces.{inside, brace_word_of, brace_meets, brace_after, Stands, ActionsStand}
 use Rattle.formula.specs.Rules.{Point, alpha_word_of, node_of, put, in_braces, over, alpha_meets, alpha_after, formula_rules}
@@ -24,7 +22,7 @@ use Rattle.formula.specs.Reading.{due_alpha}
 use Rattle.formula.specs.Wholes.{one_back, two_back}
 use Rattle.model.specs.Grammar.{Once}
 use Rattle.formula.specs.Grammar.{AlphaAt}
-use Rattle.formula.proofs.HeadWords.{close_is, open_is}
+use Rattle.formula.proofs.HeadWords.{brace_is}
 use Rattle.formula.proofs.SetBits.{with_all, Clear, clear_back, once_more, bits_are}
 
 -- the logic's words for those that are kept, and back
@@ -81,19 +79,19 @@ module _ (text : List ℕ) (actions properties : List (List ℕ)) (T : Point) (q
     split_braces zero set p w = absurd (stuck (in_braces t ds names before (inside set)) refl w.0)
     split_braces (suc n) set p w = by (split_braces n) (brace_word_of (bytes_of text w.2.start w.1) actions) refl
       where
-        by : ((set p : ℕ) → Rest n (in_braces t ds names before (inside set)) p → InBraces n set p) → (o : BraceWord) → brace_word_of (bytes_of text w.2.start w.1) actions ≡ o → InBraces (suc n) set p
-        by more Close is = record {
+        by : ((set p : ℕ) → Rest n (in_braces t ds names before (inside set)) p → InBraces n set p) → (o : Option BraceOrName) → brace_word_of (bytes_of text w.2.start w.1) actions ≡ o → InBraces (suc n) set p
+        by more (Some Brace) is = record {
           listed = [];
           end = w.1;
           left = n;
           less = omega arith;
-          stand = the_word (in_braces t ds names before (inside set)) p w.0 w.1 (codes "}") w.2 (close_is actions _ is);
+          stand = the_word (in_braces t ds names before (inside set)) p w.0 w.1 (codes "}") w.2 (brace_is (codes "}") _ actions is);
           once = tt;
           clear = λ b h. absurd (let z : ◌≡◌ {A = ℕ} 0 1 = cc in omega arith);
           some = λ z. w.2.fits 10 (subst (λ o. brace_meets set o 10) (sym is) (refl, z));
           rest = subst (λ u. Rest n u w.1) (sym w.2.goes ∙ ap (λ o. in_braces t ds names before (brace_after set o)) is) w.3;
         }
-        by more (Action b) is =
+        by more (Some (Name b)) is =
             let new : bit set b ≡ false = not_true (bit set b) (λ h. w.2.fits 10 (subst (λ o. brace_meets set o 10) (sym is) (refl, h))) in
             let r = more (bit_or set (2 ^ b)) w.1 (subst (λ u. Rest n u w.1) (sym w.2.goes ∙ ap (λ o. in_braces t ds names before (brace_after set o)) is) w.3) in
             record {
@@ -107,7 +105,7 @@ module _ (text : List ℕ) (actions properties : List (List ℕ)) (T : Point) (q
               some = r.some;
               rest = r.rest;
             }
-        by more Unknown is = absurd (w.2.fits 7 (subst (λ o. brace_meets set o 7) (sym is) refl))
+        by more None is = absurd (w.2.fits 7 (subst (λ o. brace_meets set o 7) (sym is) refl))
 
     pub record Spoken (n p : ℕ) : Type 0 where
       pub alpha : logic.Alpha
@@ -125,8 +123,8 @@ module _ (text : List ℕ) (actions properties : List (List ℕ)) (T : Point) (q
     split_alpha zero p w = absurd (stuck (due_alpha t ds names before) refl w.0)
     split_alpha (suc n) p w = by (alpha_word_of (bytes_of text w.2.start w.1) names) refl
       where
-        by : (o : AlphaWord) → alpha_word_of (bytes_of text w.2.start w.1) names ≡ o → Spoken (suc n) p
-        by alphas.Brace is =
+        by : (o : Option BraceOrName) → alpha_word_of (bytes_of text w.2.start w.1) names ≡ o → Spoken (suc n) p
+        by (Some Brace) is =
             let r = split_braces n 0 w.1 (subst (λ u. Rest n u w.1) (sym w.2.goes ∙ ap (λ o. alpha_after o t ds (due_alpha t ds names before)) is) w.3) in
             record {
               alpha = logic.written (with_all 0 r.listed);
@@ -135,12 +133,12 @@ module _ (text : List ℕ) (actions properties : List (List ℕ)) (T : Point) (q
               less = omega (arith, r.less);
               stand = (
                 w.1,
-                the_word (due_alpha t ds names before) p w.0 w.1 (codes "{") w.2 (open_is names _ is),
+                the_word (due_alpha t ds names before) p w.0 w.1 (codes "{") w.2 (brace_is (codes "{") _ names is),
                 record { listed = r.listed; some = listed_some r.listed r.some; once = r.once; stand = r.stand; bits = bits_are r.listed },
               );
               rest = r.rest;
             }
-        by (alphas.Variable y) is = record {
+        by (Some (Name y)) is = record {
           alpha = logic.variable y;
           end = w.1;
           left = n;
@@ -148,4 +146,4 @@ module _ (text : List ℕ) (actions properties : List (List ℕ)) (T : Point) (q
           stand = (bytes_of text w.2.start w.1, the_word (due_alpha t ds names before) p w.0 w.1 (bytes_of text w.2.start w.1) w.2 refl, is);
           rest = subst (λ u. Rest n u w.1) (sym w.2.goes ∙ ap (λ o. alpha_after o t ds (due_alpha t ds names before)) is) w.3;
         }
-        by alphas.Unknown is = absurd (w.2.fits 7 (subst (λ o. alpha_meets o 7) (sym is) refl))
+        by None is = absurd (w.2.fits 7 (subst (λ o. alpha_meets o 7) (sym is) refl))

@@ -7,11 +7,9 @@ use Rattle.words.specs.Words.{lookup}
 use Rattle.formula.specs.declared.Node.TheVariants as nodes
 use Rattle.formula.specs.declared.heads.Head.{Head}
 use Rattle.formula.specs.declared.heads.Head.TheVariants as heads
-use Rattle.formula.specs.declared.braces.BraceWord.TheVariants.{Close}
-use Rattle.formula.specs.declared.nodes.AlphaWord.TheVariants as alphas
+use Rattle.formula.specs.declared.braces.BraceOrName.TheVariants.{Brace}
 use Rattle.formula.specs.Heads.{spelled, among, either, plain_heads, exists_heads, always_heads, reserved_head_of, property_head_of, head_of}
-use Rattle.formula.specs.Braces.{action_word_of, brace_word_of}
-use Rattle.formula.specs.Rules.{variable_word_of, alpha_word_of}
+use Rattle.formula.specs.Braces.{name_word_of, brace_or_name_of}
 use Rattle.formula.specs.Grammar.{Names}
 
 -- a head that is a word by itself
@@ -85,26 +83,14 @@ head_is properties w h is = by (reserved_head_of w) refl is
     by None e is = property_so properties w e h (lookup w properties) refl is
     by (Some k) e is = reserved_so properties w h (reserved_is w h (e ∙ is))
 
--- `}` alone closes
-pub close_is : (actions : List (List ℕ)) (w : List ℕ) → brace_word_of w actions ≡ Close → w ≡ codes "}"
-close_is actions w is =
-    elim (cases_Bool (bytes_eq w (codes "}"))) [
-      | inl e ↦ (bytes_eq-Decides w (codes "}")).0 e
-      | inr e ↦ absurd (no_close (lookup w actions) (sym (cond-false _ _ _ e) ∙ is))
+-- the brace alone is read as one
+pub brace_is : (brace w : List ℕ) (names : List (List ℕ)) → brace_or_name_of brace w names ≡ Some Brace → w ≡ brace
+brace_is brace w names is =
+    elim (cases_Bool (bytes_eq w brace)) [
+      | inl e ↦ (bytes_eq-Decides w brace).0 e
+      | inr e ↦ absurd (no_brace (lookup w names) (sym (cond-false _ _ _ e) ∙ is))
     ]
   where
-    no_close : (o : Option ℕ) → action_word_of o ≡ Close → ⊥
-    no_close None h = let z : ◌≡◌ {A = ℕ} 0 1 = cc in omega arith
-    no_close (Some a) h = let z : ◌≡◌ {A = ℕ} 0 1 = cc in omega arith
-
--- `{` alone opens
-pub open_is : (variables : List (List ℕ)) (w : List ℕ) → alpha_word_of w variables ≡ alphas.Brace → w ≡ codes "{"
-open_is variables w is =
-    elim (cases_Bool (bytes_eq w (codes "{"))) [
-      | inl e ↦ (bytes_eq-Decides w (codes "{")).0 e
-      | inr e ↦ absurd (no_open (lookup w variables) (sym (cond-false _ _ _ e) ∙ is))
-    ]
-  where
-    no_open : (o : Option ℕ) → variable_word_of o ≡ alphas.Brace → ⊥
-    no_open None h = let z : ◌≡◌ {A = ℕ} 0 1 = cc in omega arith
-    no_open (Some y) h = let z : ◌≡◌ {A = ℕ} 0 1 = cc in omega arith
+    no_brace : (o : Option ℕ) → name_word_of o ≡ Some Brace → ⊥
+    no_brace None h = let z : ◌≡◌ {A = ℕ} 0 1 = cc in omega arith
+    no_brace (Some i) h = let z : ◌≡◌ {A = ℕ} 0 1 = cc in omega arith

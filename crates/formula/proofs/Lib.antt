@@ -1,4 +1,5 @@
 pub mod Steps
+pub mod Padding
 pub mod BraceWalks
 pub mod NodeWalks
 pub mod PartWalks

@@ -1,21 +1,21 @@
 -- The words of one node of a formula.
 use Rattle.std.proofs.Common.{◌≡◌, ℕ, ◌<◌, ◌≤◌, true, false, List, ◌∷◌, length, Some, None, Option, sym, refl, ap, ◌∙◌, subst, inl, inr, arith}
 use Rattle.words.specs.Words.{WordAt, Clean, bytes_of}
-use Rattle.words.specs.Walks.{First, Walks, Refused}
-use Rattle.words.proofs.Walks.{Embeds, walks_embed, refused_embed}
+use Rattle.words.specs.Walks.{First, Walks, Leaves}
+use Rattle.words.proofs.Walks.{Embeds, walks_embed}
 use Rattle.formula.specs.declared.Alpha.{Alpha}
 use Rattle.formula.specs.declared.Alpha.TheVariants as alphas
 use Rattle.formula.specs.declared.Node.{Node}
 use Rattle.formula.specs.declared.heads.Temporal.{Temporal}
 use Rattle.formula.specs.declared.heads.Temporal.TheVariants as temporal
 use Rattle.formula.specs.declared.heads.Head.{Head}
-use Rattle.formula.specs.declared.nodes.AlphaWord.TheVariants.{Brace, Variable, Unknown}
+use Rattle.formula.specs.declared.braces.BraceOrName.TheVariants.{Brace, Name}
 use Rattle.formula.specs.Nodes.{arity}
 use Rattle.formula.specs.Heads.{head_of}
 use Rattle.formula.specs.Braces.{Braces, inside, closed, brace_rules, brace_over}
 use Rattle.formula.specs.Rules.{alpha_word_of, node_of, temporal_parts, below, put, begun, in_braces, head_meets, head_after, alpha_meets, alpha_after, over, formula_rules}
 use Rattle.formula.specs.Reading.{due_parts, due_alpha}
-use Rattle.formula.proofs.Steps.{word_goes, word_refused}
+use Rattle.formula.proofs.Steps.{word_goes, word_stops, leaves_embed}
 
 pub same_parts : (t : Temporal) (α : Alpha) → arity (node_of t α) ≡ temporal_parts t
 same_parts (temporal.One w) α = refl
@@ -23,12 +23,12 @@ same_parts (temporal.Two w) α = refl
 
 module _ (actions properties names : List (List ℕ)) (text : List ℕ) (before : List Node) (p start end : ℕ) (found : WordAt text p start end × Clean text start end) where
   module _ (d : ℕ) (ds : List ℕ) where
-    first_head : (o : Option Head) → o ≡ head_of (bytes_of text start end) properties → (n : ℕ) → First (head_meets d (length before) o) n → Refused (formula_rules actions properties) text (due_parts (d ∷ ds) names before) p n start
+    first_head : (o : Option Head) → o ≡ head_of (bytes_of text start end) properties → (n : ℕ) → First (head_meets d (length before) o) n → Leaves (formula_rules actions properties) text (due_parts (d ∷ ds) names before) p n start end
     first_head o is n first =
-        word_refused (formula_rules actions properties) text (due_parts (d ∷ ds) names before) p refl start end found n
+        word_stops (formula_rules actions properties) text (due_parts (d ∷ ds) names before) p refl start end found n
         (subst (λ o. First (head_meets d (length before) o) n) is first)
 
-    pub head_unknown : None ≡ head_of (bytes_of text start end) properties → Refused (formula_rules actions properties) text (due_parts (d ∷ ds) names before) p 7 start
+    pub head_unknown : None ≡ head_of (bytes_of text start end) properties → Leaves (formula_rules actions properties) text (due_parts (d ∷ ds) names before) p 7 start end
     head_unknown is = first_head None is 7 (record { met = inl refl; least = below_seven })
       where
         below_seven : (m : ℕ) → m < 7 → head_meets d (length before) None m → ⊥
@@ -36,14 +36,14 @@ module _ (actions properties names : List (List ℕ)) (text : List ℕ) (before 
         below_seven m lt (inr (inl h)) = omega arith
         below_seven m lt (inr (inr h)) = omega arith
 
-    pub head_deep : (h : Head) → Some h ≡ head_of (bytes_of text start end) properties → 12 < d → Refused (formula_rules actions properties) text (due_parts (d ∷ ds) names before) p 11 start
+    pub head_deep : (h : Head) → Some h ≡ head_of (bytes_of text start end) properties → 12 < d → Leaves (formula_rules actions properties) text (due_parts (d ∷ ds) names before) p 11 start end
     head_deep h is deep = first_head (Some h) is 11 (record { met = inl (refl, deep); least = below_eleven })
       where
         below_eleven : (m : ℕ) → m < 11 → head_meets d (length before) (Some h) m → ⊥
         below_eleven m lt (inl h) = omega arith
         below_eleven m lt (inr h) = omega arith
 
-    pub head_many : (h : Head) → Some h ≡ head_of (bytes_of text start end) properties → d ≤ 12 → 64 ≤ length before → Refused (formula_rules actions properties) text (due_parts (d ∷ ds) names before) p 12 start
+    pub head_many : (h : Head) → Some h ≡ head_of (bytes_of text start end) properties → d ≤ 12 → 64 ≤ length before → Leaves (formula_rules actions properties) text (due_parts (d ∷ ds) names before) p 12 start end
     head_many h is flat many = first_head (Some h) is 12 (record { met = inr (refl, many); least = below_twelve })
       where
         below_twelve : (m : ℕ) → m < 12 → head_meets d (length before) (Some h) m → ⊥
@@ -60,17 +60,17 @@ module _ (actions properties names : List (List ℕ)) (text : List ℕ) (before 
         (λ n m. fits_head h flat few n (subst (λ o. head_meets d (length before) o n) (sym is) m)) (ap (λ o. head_after o d ds (due_parts (d ∷ ds) names before)) (sym is))
 
   module _ (t : Temporal) (ds : List ℕ) where
-    pub alpha_unknown : Unknown ≡ alpha_word_of (bytes_of text start end) names → Refused (formula_rules actions properties) text (due_alpha t ds names before) p 7 start
+    pub alpha_unknown : None ≡ alpha_word_of (bytes_of text start end) names → Leaves (formula_rules actions properties) text (due_alpha t ds names before) p 7 start end
     alpha_unknown is =
-        word_refused (formula_rules actions properties) text (due_alpha t ds names before) p refl start end found 7
+        word_stops (formula_rules actions properties) text (due_alpha t ds names before) p refl start end found 7
         (subst (λ o. First (alpha_meets o) 7) is (record { met = refl; least = λ m lt h. omega (arith, h) }))
 
-    pub alpha_variable : (y : ℕ) → Variable y ≡ alpha_word_of (bytes_of text start end) names → Walks (formula_rules actions properties) text (due_alpha t ds names before) p (put (node_of t (alphas.Variable y)) ds names before) end
+    pub alpha_variable : (y : ℕ) → Some (Name y) ≡ alpha_word_of (bytes_of text start end) names → Walks (formula_rules actions properties) text (due_alpha t ds names before) p (put (node_of t (alphas.Variable y)) ds names before) end
     alpha_variable y is =
         word_goes (formula_rules actions properties) text (due_alpha t ds names before) p refl start end found (put (node_of t (alphas.Variable y)) ds names before)
         (λ n m. subst (λ o. alpha_meets o n) (sym is) m) (ap (λ o. alpha_after o t ds (due_alpha t ds names before)) (sym is))
 
-    pub alpha_opens : Brace ≡ alpha_word_of (bytes_of text start end) names → Walks (formula_rules actions properties) text (due_alpha t ds names before) p (in_braces t ds names before (inside 0)) end
+    pub alpha_opens : Some Brace ≡ alpha_word_of (bytes_of text start end) names → Walks (formula_rules actions properties) text (due_alpha t ds names before) p (in_braces t ds names before (inside 0)) end
     alpha_opens is =
         word_goes (formula_rules actions properties) text (due_alpha t ds names before) p refl start end found (in_braces t ds names before (inside 0))
         (λ n m. subst (λ o. alpha_meets o n) (sym is) m) (ap (λ o. alpha_after o t ds (due_alpha t ds names before)) (sym is))
@@ -102,8 +102,8 @@ module _ (actions properties names : List (List ℕ)) (text : List ℕ) (before 
   pub braces_walk : (b : Braces) (p : ℕ) (c : Braces) (q : ℕ) → Walks (brace_rules actions) text b p c q → Walks (formula_rules actions properties) text (in_braces t ds names before b) p (in_braces t ds names before c) q
   braces_walk = walks_embed (brace_rules actions) (formula_rules actions properties) (in_braces t ds names before) text embeds
 
-  pub braces_refused : (b : Braces) (p n at : ℕ) → Refused (brace_rules actions) text b p n at → Refused (formula_rules actions properties) text (in_braces t ds names before b) p n at
-  braces_refused = refused_embed (brace_rules actions) (formula_rules actions properties) (in_braces t ds names before) text embeds
+  pub braces_leave : (b : Braces) (p n at end : ℕ) → Leaves (brace_rules actions) text b p n at end → Leaves (formula_rules actions properties) text (in_braces t ds names before b) p n at end
+  braces_leave = leaves_embed (brace_rules actions) (formula_rules actions properties) (in_braces t ds names before) text embeds
 
 -- the point behind a temporal word and what it speaks over, by its node
 pub placed : (t : Temporal) (α : Alpha) (n : Node) → n ≡ node_of t α → (d : ℕ) (ds : List ℕ) (names : List (List ℕ)) (before : List Node) → put (node_of t α) (below (temporal_parts t) d ds) names before ≡ put n (below (arity n) d ds) names before

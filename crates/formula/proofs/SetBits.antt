@@ -4,6 +4,7 @@ use native.Mathlib.Nat.{two-pow-succ, zero-div, div_self, div-eq_of_lt}
 use lib.Bits.{bit_or, or_shr, or_mod}
 use Rattle.std.specs.List.{ContainsAt as Has}
 use Rattle.std.proofs.lemmas.Nat.{pow_pos, pow-add, shl-shr, pow_below, mod_below}
+use Rattle.std.proofs.Math.Bool.{or_assoc}
 use Rattle.std.proofs.lemmas.Bool.{cases_order, eqb-true, eq-eqb, ne_eqb, or_cases, or_parts, or_right, or_left, or_from}
 use Rattle.std.proofs.lemmas.Bool.Decides.{Decides-by_or, Decides-eqb, Decides-at, same_from_decides}
 use Rattle.logic.specs.Codes.{bit}
@@ -72,10 +73,6 @@ with_all set (a ∷ xs) = with_all (bit_or set (2 ^ a)) xs
 
 pub bit_with : (set a b : ℕ) → bit (bit_or set (2 ^ a)) b ≡ (bit set b || eqb a b)
 bit_with set a b = bit_of_or set (2 ^ a) b ∙ ap (λ x. bit set b || x) (bit_power a b)
-
-or_assoc : (x y z : Bool) → ((x || y) || z) ≡ (x || (y || z))
-or_assoc true y z = refl
-or_assoc false y z = refl
 
 pub bit_with_all : (set : ℕ) (xs : List ℕ) (b : ℕ) → bit (with_all set xs) b ≡ (bit set b || among b xs)
 bit_with_all set [] b = or_none (bit set b)

@@ -1,15 +1,15 @@
 -- A formula sheet is walked over by the rules, and a walk to its end goes over a formula sheet.
-use Rattle.std.proofs.Common.{◌≡◌, ℕ, zero, suc, ◌*◌, ◌≤◌, Bool, true, false, List, [], ◌∷◌, ◌++◌, length, is_some, Some, None, Option, sym, refl, ap, ◌∙◌, subst, inl, inr, arith}
+use Rattle.std.proofs.Common.{◌≡◌, ℕ, zero, suc, ◌*◌, ◌≤◌, Bool, true, false, List, [], ◌∷◌, ◌++◌, length, Some, None, Option, sym, refl, ap, ◌∙◌, subst, inl, inr, arith}
+use Rattle.std.specs.List.{ContainsAt as Has}
 use Rattle.std.proofs.lemmas.List.{append_assoc, append-nil}
 use Rattle.std.proofs.lemmas.Bool.{cases_lt}
 use Rattle.words.specs.declared.Letters.TheVariants.{Upper}
 use Rattle.words.specs.Faults.{text_limit}
-use Rattle.words.specs.Words.{bytes_of, counted, named, lookup, name_bytes, name_from}
+use Rattle.words.specs.Words.{bytes_of, counted, named, name_bytes, name_from}
 use Rattle.words.specs.Walks.{Walks}
 use Rattle.words.proofs.Words.{never_both, kept_whole}
 use Rattle.words.proofs.Walks.{walks_then}
 use Rattle.model.specs.Grammar.{Once}
-use Rattle.model.proofs.Members.{lookup_decides}
 use Rattle.model.proofs.Onces.{once_push, once_new}
 use Rattle.formula.specs.declared.Node.{Node}
 use Rattle.formula.specs.Nodes.{flat}
@@ -20,7 +20,7 @@ use Rattle.formula.specs.Grammar.{Spells}
 use Rattle.formula.specs.Sheets.{Content, NamesStand, FormulaSheet}
 use Rattle.formula.proofs.NameWalks.{named_short, count_goes, name_goes}
 use Rattle.formula.proofs.GrammarWalks.{formula_walks}
-use Rattle.formula.proofs.GrammarSplits.{not_true, Rest, stuck, the_word}
+use Rattle.formula.proofs.GrammarSplits.{Rest, stuck, the_word}
 use Rattle.formula.proofs.FormulaSplits.{split_formula}
 use Rattle.formula.specs.Braces.{Stands}
 
@@ -38,8 +38,7 @@ module _ (text : List ℕ) (actions properties : List (List ℕ)) where
       let k = length ws in
       let same : bytes_of text first.start m ≡ w = first.bytes in
       let good : named Upper (bytes_of text first.start m) ≡ true = ap (named Upper) same ∙ s.2 in
-      let new : is_some (lookup w names) ≡ false = not_true (is_some (lookup w names)) (λ h. once_new names w ws once ((lookup_decides w names).0 h)) in
-      let fresh : is_some (lookup (bytes_of text first.start m) names) ≡ false = ap (λ v. is_some (lookup v names)) same ∙ new in
+      let fresh : Has names (bytes_of text first.start m) → ⊥ = λ h. once_new names w ws once (subst (λ v. Has names v) same h) in
       let step = name_goes actions properties text p first.start m (first.word, first.clean) k names good fresh (name_from (bytes_of text first.start m)) refl in
       let bytes : name_bytes (name_from (bytes_of text first.start m)) ≡ w = kept_whole (bytes_of text first.start m) (named_short Upper (bytes_of text first.start m) good) ∙ same in
       let goes = subst (λ v. Walks (formula_rules actions properties) text (due_name k names) p (to_name k (names ++ v ∷ [])) m) bytes step in

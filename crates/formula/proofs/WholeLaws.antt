@@ -9,17 +9,16 @@ use Rattle.std.proofs.lemmas.Bool.Decides.{Decides-ltb, Decides-and}
 use Rattle.logic.specs.Formulas as logic
 use Rattle.words.specs.Words.{lookup}
 use Rattle.words.proofs.Words.{never_both}
-use Rattle.model.proofs.Members.{lookup_is}
+use Rattle.words.proofs.Lookups.{lookup_is}
 use Rattle.formula.specs.declared.Formula.{Formula}
 use Rattle.formula.specs.declared.Alpha.{Alpha}
 use Rattle.formula.specs.declared.Alpha.TheVariants as kept
 use Rattle.formula.specs.declared.Node.{Node}
 use Rattle.formula.specs.declared.Node.TheVariants.{True, Property, Not, Or, And, One, Two}
-use Rattle.formula.specs.declared.braces.BraceWord.TheVariants.{Close, Action}
-use Rattle.formula.specs.declared.nodes.AlphaWord.TheVariants as alphas
+use Rattle.formula.specs.declared.braces.BraceOrName.{BraceOrName}
+use Rattle.formula.specs.declared.braces.BraceOrName.TheVariants.{Brace, Name}
 use Rattle.formula.specs.Nodes.{alpha_of, arity, flat}
-use Rattle.formula.specs.Braces.{action_word_of, brace_word_of, ActionsStand}
-use Rattle.formula.specs.Rules.{variable_word_of, alpha_word_of}
+use Rattle.formula.specs.Braces.{name_word_of, brace_or_name_of, ActionsStand}
 use Rattle.formula.specs.Grammar.{AlphaAt, Spells}
 use Rattle.formula.specs.Wholes.{AlphaIn, NodeIn, InRange, Whole, SomeWhole, Meaning, blank_meaning, with_numbers, Means, built, alpha_in, node_in, covers, is_whole, first_of, meaning_of, Meanings, ReadWhole}
 use Rattle.formula.proofs.Flats.{flat_injective, built_flat}
@@ -61,8 +60,8 @@ covers_decides a v p (n ∷ ns) (suc k) =
 
 tested : (v : Formula) → Decides (is_whole v) (SomeWhole v)
 tested v =
-    let walk = covers_decides v.actions v.variables v.properties (counted_nodes v) 1 in (
-      λ e. (let both = and_parts _ _ e in let f = one_tree v.actions v.variables v.properties (counted_nodes v) (walk.0 both.1) in (f.0, record { many = leb-true _ _ both.0; nodes = f.1; range = f.2 })),
+    let walk = covers_decides v.actions v.variables.count v.properties (counted_nodes v) 1 in (
+      λ e. (let both = and_parts _ _ e in let f = one_tree v.actions v.variables.count v.properties (counted_nodes v) (walk.0 both.1) in (f.0, record { many = leb-true _ _ both.0; nodes = f.1; range = f.2 })),
       λ w. and_from _ _ (le-leb _ _ w.1.many) (walk.1 (whole_tree v w)),
     )
 
@@ -92,41 +91,30 @@ meaning_whole v f w = one_meaning v (meaning_of v) (with_numbers v f) (computed 
 pub meaning_blank : (v : Formula) → (SomeWhole v → ⊥) → meaning_of v ≡ blank_meaning
 meaning_blank v none = one_meaning v (meaning_of v) blank_meaning (computed v) (inr (λ f w. none (f, w), refl))
 
--- the number of an action or a variable is below how many there are
-action_below : (actions : List (List ℕ)) (w : List ℕ) (a : ℕ) → brace_word_of w actions ≡ Action a → a < length actions
-action_below actions w a is =
-    elim (cases_Bool (bytes_eq w (codes "}"))) [
-      | inl e ↦ absurd (let h : ◌≡◌ {A = Rattle.formula.specs.declared.braces.BraceWord.BraceWord} Close (Action a) = sym (cond-true _ _ _ e) ∙ is in let z : ◌≡◌ {A = ℕ} 0 1 = cc in omega arith)
-      | inr e ↦ by (lookup w actions) refl (sym (cond-false _ _ _ e) ∙ is)
+-- the number of a name is below how many there are
+name_below : (brace w : List ℕ) (names : List (List ℕ)) (i : ℕ) → brace_or_name_of brace w names ≡ Some (Name i) → i < length names
+name_below brace w names i is =
+    elim (cases_Bool (bytes_eq w brace)) [
+      | inl e ↦ absurd (let h : ◌≡◌ {A = Option BraceOrName} (Some Brace) (Some (Name i)) = sym (cond-true _ _ _ e) ∙ is in let z : ◌≡◌ {A = ℕ} 0 1 = cc in omega arith)
+      | inr e ↦ by (lookup w names) refl (sym (cond-false _ _ _ e) ∙ is)
     ]
   where
-    by : (o : Option ℕ) → lookup w actions ≡ o → action_word_of o ≡ Action a → a < length actions
+    by : (o : Option ℕ) → lookup w names ≡ o → name_word_of o ≡ Some (Name i) → i < length names
     by None e h = absurd (let z : ◌≡◌ {A = ℕ} 0 1 = cc in omega arith)
-    by (Some b) e h = let same : b ≡ a = cc in subst (λ x. x < length actions) same (lookup_is w actions b e).0
-
-variable_below : (variables : List (List ℕ)) (w : List ℕ) (y : ℕ) → alpha_word_of w variables ≡ alphas.Variable y → y < length variables
-variable_below variables w y is =
-    elim (cases_Bool (bytes_eq w (codes "{"))) [
-      | inl e ↦ absurd (let h : ◌≡◌ {A = Rattle.formula.specs.declared.nodes.AlphaWord.AlphaWord} alphas.Brace (alphas.Variable y) = sym (cond-true _ _ _ e) ∙ is in let z : ◌≡◌ {A = ℕ} 0 1 = cc in omega arith)
-      | inr e ↦ by (lookup w variables) refl (sym (cond-false _ _ _ e) ∙ is)
-    ]
-  where
-    by : (o : Option ℕ) → lookup w variables ≡ o → variable_word_of o ≡ alphas.Variable y → y < length variables
-    by None e h = absurd (let z : ◌≡◌ {A = ℕ} 0 1 = cc in omega arith)
-    by (Some b) e h = let same : b ≡ y = cc in subst (λ x. x < length variables) same (lookup_is w variables b e).0
+    by (Some j) e h = let same : j ≡ i = cc in subst (λ x. x < length names) same (lookup_is w names j e).0
 
 module _ (text : List ℕ) (actions properties variables : List (List ℕ)) where
   set_below : (xs : List ℕ) (set p q : ℕ) → ActionsStand text actions xs p q → set < 2 ^ length actions → with_all set xs < 2 ^ length actions
   set_below [] set p q s low = low
   set_below (a ∷ xs) set p q s low =
-      set_below xs (bit_or set (2 ^ a)) s.1 q s.4 (or_lt (length actions) set (2 ^ a) low (pow_below a (length actions) (action_below actions s.0 a s.3)))
+      set_below xs (bit_or set (2 ^ a)) s.1 q s.4 (or_lt (length actions) set (2 ^ a) low (pow_below a (length actions) (name_below (codes "}") s.0 actions a s.3)))
 
   some_set : (xs : List ℕ) → 0 < length xs → 0 < with_all 0 xs
   some_set [] some = absurd (omega arith)
   some_set (a ∷ xs) some = let h = some_code a xs in omega arith
 
   alpha_inside : (α : logic.Alpha) (p q : ℕ) → AlphaAt text actions properties variables α p q → AlphaIn (length actions) (length variables) (alpha_of α)
-  alpha_inside (logic.variable y) p q s = variable_below variables s.0 y s.2
+  alpha_inside (logic.variable y) p q s = name_below (codes "{") s.0 variables y s.2
   alpha_inside (logic.written c) p q s =
       let b = s.2 in
       let is = code_is c b.listed b.bits in

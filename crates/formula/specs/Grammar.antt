@@ -8,7 +8,7 @@
 use Rattle.std.specs.Prelude.{◌≡◌, ℕ, List, Some, None, codes}
 use Rattle.logic.specs.Formulas as logic
 use Rattle.words.specs.Words.{lookup}
-use Rattle.formula.specs.declared.nodes.AlphaWord.TheVariants.{Variable}
+use Rattle.formula.specs.declared.braces.BraceOrName.TheVariants.{Name}
 use Rattle.formula.specs.Nodes.{one_word, two_word}
 use Rattle.formula.specs.Heads.{spelled_one, spelled_two, reserved_head_of}
 use Rattle.formula.specs.Braces.{Stands, BracesAt}
@@ -20,7 +20,7 @@ pub record Names (properties : List (List ℕ)) (w : List ℕ) (i : ℕ) : Type 
 
 module _ (text : List ℕ) (actions properties variables : List (List ℕ)) where
   abbrev pub AlphaAt : logic.Alpha → ℕ → ℕ → Type 0
-  AlphaAt (logic.variable y) p q = (w : List ℕ) × Stands text p w q × (alpha_word_of w variables ≡ Variable y)
+  AlphaAt (logic.variable y) p q = (w : List ℕ) × Stands text p w q × (alpha_word_of w variables ≡ Some (Name y))
   AlphaAt (logic.written c) p q = (m : ℕ) × Stands text p (codes "{") m × BracesAt text actions c m q
 
   abbrev pub Spells : logic.Formula → ℕ → ℕ → Type 0

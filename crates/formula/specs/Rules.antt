@@ -1,7 +1,8 @@
 -- How a formula sheet is read: which word is due where, what each refuses, and what each adds to what has been read. The names
 -- of the actions and of the properties are given.
 --
---   alpha_word_of  what a word says where a temporal word wants to know what it speaks over: `{`, or a variable by its number
+--   alpha_word_of  what a word says where a temporal word wants to know what it speaks over: `{`, or a variable by its number; if
+--                anything
 --   Due          the word that is due: the count of variables; a variable's name, and how many more behind it; a formula, by the
 --                depths at which this one and those behind it stand; what a temporal word speaks over, and the depths of the
 --                formulas behind that; a word between its braces, the set so far. None where no formula is due any more.
@@ -15,11 +16,10 @@
 --   formula_rules  the rules of the sheet;  formula_start  its first point
 --
 -- Assumes nothing.
-use Rattle.std.specs.Prelude.{◌≡◌, ℕ, zero, suc, ◌+◌, ◌*◌, ◌<◌, ◌≤◌, Bool, true, false, cond, ◌⊎◌, List, [], ◌∷◌, ◌++◌, length, Some, None, codes, Option}
+use Rattle.std.specs.Prelude.{◌≡◌, ℕ, zero, suc, ◌+◌, ◌*◌, ◌<◌, ◌≤◌, Bool, true, false, ◌⊎◌, List, [], ◌∷◌, ◌++◌, length, Some, None, codes, Option}
 use Rattle.std.specs.List.{ContainsAt as Has}
-use Rattle.std.specs.Str.{bytes_eq}
 use Rattle.words.specs.declared.Letters.TheVariants.{Upper}
-use Rattle.words.specs.Words.{counted, named, lookup}
+use Rattle.words.specs.Words.{counted, named}
 use Rattle.words.specs.Walks.{Rules}
 use Rattle.formula.specs.declared.Alpha.{Alpha}
 use Rattle.formula.specs.declared.Alpha.TheVariants as alphas
@@ -29,18 +29,14 @@ use Rattle.formula.specs.declared.heads.Temporal.{Temporal}
 use Rattle.formula.specs.declared.heads.Temporal.TheVariants as temporal
 use Rattle.formula.specs.declared.heads.Head.{Head}
 use Rattle.formula.specs.declared.heads.Head.TheVariants as head
-use Rattle.formula.specs.declared.nodes.AlphaWord.{AlphaWord}
-use Rattle.formula.specs.declared.nodes.AlphaWord.TheVariants.{Brace, Variable, Unknown}
+use Rattle.formula.specs.declared.braces.BraceOrName.{BraceOrName}
+use Rattle.formula.specs.declared.braces.BraceOrName.TheVariants.{Brace, Name}
 use Rattle.formula.specs.Nodes.{arity}
 use Rattle.formula.specs.Heads.{head_of}
-use Rattle.formula.specs.Braces.{Braces, inside, closed, brace_word_of, brace_meets, brace_after}
+use Rattle.formula.specs.Braces.{Braces, inside, closed, brace_or_name_of, brace_word_of, brace_meets, brace_after}
 
-abbrev pub variable_word_of : Option ℕ → AlphaWord
-variable_word_of None = Unknown
-variable_word_of (Some y) = Variable y
-
-abbrev pub alpha_word_of : List ℕ → List (List ℕ) → AlphaWord
-alpha_word_of w names = cond (bytes_eq w (codes "{")) Brace (variable_word_of (lookup w names))
+abbrev pub alpha_word_of : List ℕ → List (List ℕ) → Option BraceOrName
+alpha_word_of = brace_or_name_of (codes "{")
 
 pub data Due : Type 0 where
   count : Due
@@ -99,10 +95,9 @@ abbrev pub head_meets : ℕ → ℕ → Option Head → ℕ → Type 0
 head_meets d used None n = (n ≡ 7) ⊎ (((n ≡ 11) × (12 < d)) ⊎ ((n ≡ 12) × (64 ≤ used)))
 head_meets d used (Some h) n = ((n ≡ 11) × (12 < d)) ⊎ ((n ≡ 12) × (64 ≤ used))
 
-abbrev pub alpha_meets : AlphaWord → ℕ → Type 0
-alpha_meets Brace n = ⊥
-alpha_meets (Variable y) n = ⊥
-alpha_meets Unknown n = n ≡ 7
+abbrev pub alpha_meets : Option BraceOrName → ℕ → Type 0
+alpha_meets None n = n ≡ 7
+alpha_meets (Some w) n = ⊥
 
 abbrev pub count_after : Option ℕ → Point → Point
 count_after None s = s
@@ -112,10 +107,10 @@ abbrev pub head_after : Option Head → ℕ → List ℕ → Point → Point
 head_after None d ds s = s
 head_after (Some h) d ds s = begun h d ds s.names s.nodes
 
-abbrev pub alpha_after : AlphaWord → Temporal → List ℕ → Point → Point
-alpha_after Brace t ds s = in_braces t ds s.names s.nodes (inside 0)
-alpha_after (Variable y) t ds s = put (node_of t (alphas.Variable y)) ds s.names s.nodes
-alpha_after Unknown t ds s = s
+abbrev pub alpha_after : Option BraceOrName → Temporal → List ℕ → Point → Point
+alpha_after None t ds s = s
+alpha_after (Some Brace) t ds s = in_braces t ds s.names s.nodes (inside 0)
+alpha_after (Some (Name y)) t ds s = put (node_of t (alphas.Variable y)) ds s.names s.nodes
 
 module _ (actions properties : List (List ℕ)) where
   abbrev pub meets : Point → Due → List ℕ → ℕ → Type 0

@@ -5,7 +5,6 @@
 --   FormulaSheet the sheet stands at the front of the text and ends at a position: the count of its variables, their names, each
 --                once, and its formula, within the limits
 --   formula_of   the value that a content is kept as: blank behind its counts
---   SheetRead    what the answer of the reader says where it stores nothing
 --   Read         what the answer of the reader says, and what the place then holds
 --   Agree        the grammar and the rules say the same: a sheet stands at the front of a text exactly if the walk by the rules
 --                comes to its end with what it says
@@ -13,20 +12,19 @@
 --                most one refusal
 --
 -- Assumes nothing.
-use Rattle.std.specs.Prelude.{◌≡◌, ℕ, ◌*◌, ◌≤◌, true, List, [], ◌∷◌, map, length, take, drop, Some, Ok, Err, Result}
+use Rattle.std.specs.Prelude.{◌≡◌, ℕ, ◌*◌, ◌≤◌, true, List, [], ◌∷◌, length, drop, Some, Ok, Err, Result}
 use Rattle.std.specs.Borrow.{Bor}
 use Rattle.logic.specs.Formulas as logic
 use Rattle.words.specs.declared.Fault.{Fault}
 use Rattle.words.specs.declared.Letters.TheVariants.{Upper}
 use Rattle.words.specs.Faults.{number, position, text_limit}
-use Rattle.words.specs.Words.{counted, named, name_bytes, name_from}
+use Rattle.words.specs.Words.{counted, named, listed}
 use Rattle.words.specs.Walks.{Walks, SheetRefused}
 use Rattle.model.specs.declared.vocabulary.Vocabulary.{Vocabulary}
 use Rattle.model.specs.Grammar.{Once}
-use Rattle.model.specs.Values.{padded, blank_name}
+use Rattle.model.specs.Values.{padded, names_kept}
 use Rattle.formula.specs.declared.Node.TheVariants.{True}
 use Rattle.formula.specs.declared.Formula.{Formula}
-use Rattle.formula.specs.declared.reader.Sheet.{Sheet}
 use Rattle.formula.specs.Nodes.{flat}
 use Rattle.formula.specs.Rules.{Point, parts, over, formula_rules, formula_start}
 use Rattle.formula.specs.Grammar.{Spells}
@@ -63,28 +61,16 @@ formula_of actions properties c = record {
   nodes = padded 64 True (flat c.formula);
   node_count = logic.nodes c.formula;
   actions = actions;
-  variables = length c.names;
   properties = properties;
-  names = padded 4 blank_name (map name_from c.names);
+  variables = names_kept 4 c.names;
 }
-
-module _ (text : List ℕ) (actions properties : List (List ℕ)) where
-  pub record SheetIs (s : Sheet) : Type 0 where
-    pub content : Content
-    pub reading : FormulaSheet text actions properties content s.end
-    pub kept : s.formula ≡ formula_of (length actions) (length properties) content
-    pub inside : s.end ≤ length text
-
-  abbrev pub SheetRead : Result Sheet Fault → Type 0
-  SheetRead (Ok s) = SheetIs s
-  SheetRead (Err f) = Refusal text actions properties (number f) (position f)
 
 -- the names of a vocabulary
 abbrev pub given_action_names : Vocabulary → List (List ℕ)
-given_action_names v = map name_bytes (take v.action_count v.actions)
+given_action_names v = listed v.actions
 
 abbrev pub given_property_names : Vocabulary → List (List ℕ)
-given_property_names v = map name_bytes (take v.property_count v.properties)
+given_property_names v = listed v.properties
 
 module _ (text : List ℕ) (v : Vocabulary) (before after : Formula) where
   pub record ReadInto (rest : List ℕ) : Type 0 where

@@ -53,7 +53,7 @@ module _ (actions variables properties : ℕ) where
 pub record Whole (v : Formula) (f : logic.Formula) : Type 0 where
   pub many : v.node_count ≤ 64
   pub nodes : take v.node_count v.nodes ≡ flat f
-  pub range : InRange v.actions v.variables v.properties f
+  pub range : InRange v.actions v.variables.count v.properties f
 
 abbrev pub SomeWhole : Formula → Type 0
 SomeWhole v = (f : logic.Formula) × Whole v f
@@ -69,7 +69,7 @@ blank_meaning = record { formula = logic.truth; actions = 0; variables = 0; prop
 
 -- a formula with the numbers of a value
 abbrev pub with_numbers : Formula → logic.Formula → Meaning
-with_numbers v f = record { formula = f; actions = v.actions; variables = v.variables; properties = v.properties }
+with_numbers v f = record { formula = f; actions = v.actions; variables = v.variables.count; properties = v.properties }
 
 abbrev pub Means : Formula → Meaning → Type 0
 Means v m =
@@ -142,7 +142,7 @@ covers actions variables properties k (n ∷ ns) =
     nat_lt 0 k && (node_in actions variables properties n && covers actions variables properties (k - 1 + arity n) ns)
 
 abbrev pub is_whole : Formula → Bool
-is_whole v = nat_le v.node_count 64 && covers v.actions v.variables v.properties 1 (take v.node_count v.nodes)
+is_whole v = nat_le v.node_count 64 && covers v.actions v.variables.count v.properties 1 (take v.node_count v.nodes)
 
 -- the first, or `true` where there is none
 abbrev pub first_of : List logic.Formula → logic.Formula

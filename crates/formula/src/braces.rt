@@ -1,65 +1,47 @@
 // A set of actions written out between braces.
-ghost use Rattle.std.specs.Prelude.{◌≡◌, ◌^◌, ◌<◌, ◌≤◌, map, length};
+ghost use Rattle.std.specs.Prelude.{◌≡◌, ◌^◌, ◌<◌, IfSome};
 ghost use Rattle.logic.specs.Codes.{bit};
-ghost use Rattle.words.specs.Words.{name_bytes};
+ghost use Rattle.words.specs.Words.{listed};
 ghost use Rattle.words.specs.Walks.{Reads};
-ghost use Rattle.formula.specs.Braces.{Within, brace_word_of, brace_rules, inside, closed};
+ghost use Rattle.formula.specs.Braces.{Within, brace_or_name_of, brace_rules, inside, closed};
 
-use words::{Fault, Name, Word, same_bytes};
+use words::{Fault, NameList, Reader, Word};
 
-// What a word says between the braces.
+// What a word says where a brace or a name may stand.
 #[derive(Clone, Copy)]
-pub enum BraceWord {
-    Close,
-    Action(usize),
-    Unknown,
+pub enum BraceOrName {
+    Brace,
+    Name(usize),
 }
 
-// The code of a set, and the position behind its `}`.
-#[derive(Clone, Copy)]
-pub struct WrittenSet {
-    pub set: usize,
-    pub end: usize,
-}
-
-fn brace_word(word: &[u8], actions: &[Name]) -> BraceWord
-    ensures value { result ≡ brace_word_of word.now (map name_bytes actions.now) }
-    ensures range { Within (length actions.now) result }
+pub(crate) fn brace_or_name<const N: usize>(
+    word: &[u8],
+    brace: &[u8],
+    names: &NameList<N>,
+) -> Option<BraceOrName>
+    ensures value { result ≡ brace_or_name_of brace.now word.now (listed names.now) }
+    ensures range { IfSome result (Within N) }
 {
-    if same_bytes(word, b"}") {
-        return BraceWord::Close;
+    if word == brace {
+        return Some(BraceOrName::Brace);
     }
-    match words::find_name(actions, word) {
-        Some(a) => BraceWord::Action(a),
-        None => BraceWord::Unknown,
-    }
+    names.find(word).map(BraceOrName::Name)
 }
 
-// The set whose `{` ends at `pos`.
-pub(crate) fn read_braces(text: &[u8], pos: usize, actions: &[Name]) -> Result<WrittenSet, Fault>
-    requires few { length actions.now ≤ 12 }
-    ensures reads { Reads (brace_rules (map name_bytes actions.now)) text.now (inside 0) pos result (λ x. closed x.set) (λ x. x.end) }
+// The code of the set whose `{` has been read.
+pub(crate) fn read_braces(reader: &mut Reader<'_>, actions: &NameList<12>) -> Result<usize, Fault>
+    ensures reads { Reads (brace_rules (listed actions.now)) (inside 0) reader.old result closed reader.new }
+    ensures same { reader.new.text ≡ reader.old.text }
 {
     let mut set: usize = 0;
-    let mut at = pos;
-    'words: loop {
-        let Word { start, end } = words::next_word(text, at)?;
-        match brace_word(&text[start..end], actions) {
-            BraceWord::Close => {
-                if set == 0 {
-                    return Err(Fault::BadBraces(start));
-                }
-                return Ok(WrittenSet { set, end });
-            }
-            BraceWord::Action(a) => {
-                if has(set, a) {
-                    return Err(Fault::BadBraces(start));
-                }
-                set |= 1 << a;
-            }
-            BraceWord::Unknown => return Err(Fault::NotNamed(start)),
+    loop {
+        let Word { bytes, start } = reader.word()?;
+        match brace_or_name(bytes, b"}", actions).ok_or(Fault::NotNamed(start))? {
+            BraceOrName::Brace if set == 0 => return Err(Fault::BadBraces(start)),
+            BraceOrName::Brace => return Ok(set),
+            BraceOrName::Name(a) if has(set, a) => return Err(Fault::BadBraces(start)),
+            BraceOrName::Name(a) => set |= 1 << a,
         }
-        at = end;
     }
 }
 

@@ -1,13 +1,14 @@
 // Formulas: a flat arena of nodes, and the reader of formula sheets.
 #![tactic(auto)]
 
-ghost use Rattle.std.specs.Prelude.{◌≡◌, [], map, take, slice_index_or};
-ghost use Rattle.words.specs.Words.{name_bytes};
+ghost use Rattle.std.specs.Prelude.{◌≡◌, [], take, slice_index_or};
+ghost use Rattle.words.specs.Words.{listed};
 ghost use Rattle.formula.specs.Nodes.{arity};
 
 pub use reader::read_formula;
-use words::Name;
+use words::{Name, NameList};
 
+mod arena;
 mod braces;
 mod heads;
 mod nodes;
@@ -74,39 +75,35 @@ impl Node {
     }
 }
 
-// The nodes of a formula in prefix order, the numbers of actions, variables and properties that it was read against, and the
-// names of its variables. Cells behind the counts are blank.
+// The nodes of a formula in prefix order, the numbers of actions and properties that it was read against, and its variables.
+// Cells behind the counts are blank; they stand beside their arrays, since no heap stands below the program.
 #[derive(Clone, Copy)]
 pub struct Formula {
     nodes: [Node; 64],
     node_count: usize,
     actions: usize,
-    variables: usize,
     properties: usize,
-    names: [Name; 4],
+    variables: NameList<4>,
 }
 
 impl Formula {
-    // The place that was never read into.
+    // The place that was never read into. Written out, since the value of a constant names no constant of a generic type.
     pub const BLANK: Formula = Formula {
         nodes: [Node::True; 64],
         node_count: 0,
         actions: 0,
-        variables: 0,
         properties: 0,
-        names: [Name::BLANK; 4],
+        variables: NameList {
+            names: [Name::BLANK; 4],
+            count: 0,
+        },
     };
 
     // The node at an index; behind the arena `true`.
     pub fn node(&self, i: usize) -> Node
         ensures { result ≡ slice_index_or self.now.nodes i Node.True }
     {
-        let nodes = &self.nodes[..];
-        if i < nodes.len() {
-            nodes[i]
-        } else {
-            Node::True
-        }
+        self.nodes.get(i).copied().unwrap_or(Node::True)
     }
 
     pub fn node_count(&self) -> usize
@@ -122,9 +119,9 @@ impl Formula {
     }
 
     pub fn variables(&self) -> usize
-        ensures { result ≡ self.now.variables }
+        ensures { result ≡ self.now.variables.count }
     {
-        self.variables
+        self.variables.count
     }
 
     pub fn properties(&self) -> usize
@@ -133,21 +130,17 @@ impl Formula {
         self.properties
     }
 
+    // The names of the variables.
+    pub fn variable_names(&self) -> &[Name]
+        ensures { result.now ≡ take self.now.variables.count self.now.variables.names }
+    {
+        self.variables.as_slice()
+    }
+
     // The bytes of a variable's name; none where there is no such variable.
     pub fn variable_name(&self, variable: usize) -> &[u8]
-        ensures { result.now ≡ slice_index_or (map name_bytes (take self.now.variables self.now.names)) variable [] }
+        ensures { result.now ≡ slice_index_or (listed self.now.variables) variable [] }
     {
-        let names = &self.names[..];
-        if variable >= self.variables || variable >= names.len() {
-            return &[];
-        }
-        bytes_of(&names[variable])
+        self.variables.name(variable)
     }
-}
-
-fn bytes_of(name: &Name) -> &[u8]
-    ensures { result.now ≡ name_bytes name.now }
-{
-    let len = name.len.min(8);
-    &name.bytes[0..len]
 }

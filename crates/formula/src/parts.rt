@@ -1,46 +1,28 @@
 // A formula with its parts, read into the arena.
-ghost use Rattle.std.specs.Prelude.{◌≡◌, ◌<◌, ◌≤◌, map, length, take, drop, IfOk};
-ghost use Rattle.words.specs.Words.{name_bytes};
-ghost use Rattle.formula.specs.Nodes.{arity};
+ghost use Rattle.std.specs.Prelude.{◌≡◌, ◌≤◌, length, take};
+ghost use Rattle.words.specs.Words.{listed};
 ghost use Rattle.formula.specs.Reading.{PartRead};
 
-use crate::Node;
-use crate::nodes::{Names, Placed, read_node};
-use words::Fault;
-
-// How many nodes the arena holds, and the position behind the formula.
-#[derive(Clone, Copy)]
-pub struct Part {
-    pub used: usize,
-    pub end: usize,
-}
+use crate::arena::Arena;
+use crate::nodes::{Names, read_node};
+use words::{Fault, Reader};
 
 // The formula at this depth, put behind the nodes that are in use.
 pub(crate) fn read_part(
-    text: &[u8],
-    pos: usize,
+    reader: &mut Reader<'_>,
     depth: usize,
     names: Names<'_>,
-    nodes: &mut [Node],
-    used: usize,
-) -> Result<Part, Fault>
-    requires few { length names.actions.now ≤ 12 }
-    requires room { length nodes.old ≡ 64 }
-    requires full { used ≤ 64 }
+    arena: &mut Arena,
+) -> Result<(), Fault>
     requires deep { depth ≤ 13 }
-    ensures reads { PartRead (map name_bytes names.entry.actions.now) (map name_bytes names.entry.properties.now) (map name_bytes names.entry.variables.now) text.now pos depth (take used nodes.old) nodes.new result }
-    ensures range { IfOk result (λ g. (used < g.used) × (g.used ≤ 64)) }
-    ensures front { take used nodes.new ≡ take used nodes.old }
-    ensures behind { IfOk result (λ g. drop g.used nodes.new ≡ drop g.used nodes.old) }
+    ensures reads { PartRead names.entry.vocabulary.now reader.old (listed names.entry.variables.now) depth arena.old arena.new result reader.new }
+    ensures same { reader.new.text ≡ reader.old.text }
+    ensures front { take (length arena.old) arena.new ≡ arena.old }
 {
-    let Placed { node, end } = read_node(text, pos, depth, names, used)?;
-    nodes[used] = node;
-    let mut part = Part {
-        used: used + 1,
-        end,
-    };
-    for _i in 0..node.parts() {
-        part = read_part(text, part.end, depth + 1, names, nodes, part.used)?;
+    let node = read_node(reader, depth, names, arena.used())?;
+    arena.push(node);
+    for _ in 0..node.parts() {
+        read_part(reader, depth + 1, names, arena)?;
     }
-    Ok(part)
+    Ok(())
 }

@@ -13,36 +13,33 @@ impl Formula {
             return false;
         }
         let mut due: usize = 1;
-        for i in 0..self.node_count {
-            if due == 0 {
-                return false;
-            }
-            let node = self.nodes[i];
-            if !node_in(node, self.actions, self.variables, self.properties) {
+        for node in &self.nodes[..self.node_count] {
+            if due == 0 || !self.has_node(*node) {
                 return false;
             }
             due = due - 1 + node.parts();
         }
         due == 0
     }
-}
 
-fn node_in(node: Node, actions: usize, variables: usize, properties: usize) -> bool
-    ensures { Decides result (NodeIn actions variables properties node) }
-{
-    match node {
-        Node::True | Node::Not | Node::Or | Node::And => true,
-        Node::Property(p) => p < properties,
-        Node::One(_, alpha) | Node::Two(_, alpha) => alpha_in(alpha, actions, variables),
+    // Whether a node speaks only of what the formula's numbers have.
+    fn has_node(&self, node: Node) -> bool
+        ensures { Decides result (NodeIn self.now.actions self.now.variables.count self.now.properties node) }
+    {
+        match node {
+            Node::True | Node::Not | Node::Or | Node::And => true,
+            Node::Property(p) => p < self.properties,
+            Node::One(_, alpha) | Node::Two(_, alpha) => self.has_alpha(alpha),
+        }
     }
-}
 
-fn alpha_in(alpha: Alpha, actions: usize, variables: usize) -> bool
-    ensures { Decides result (AlphaIn actions variables alpha) }
-{
-    match alpha {
-        Alpha::Variable(y) => y < variables,
-        Alpha::Written(set) => set > 0 && fits(set, actions),
+    fn has_alpha(&self, alpha: Alpha) -> bool
+        ensures { Decides result (AlphaIn self.now.actions self.now.variables.count alpha) }
+    {
+        match alpha {
+            Alpha::Variable(y) => y < self.variables.count,
+            Alpha::Written(set) => set > 0 && fits(set, self.actions),
+        }
     }
 }
 
@@ -50,10 +47,7 @@ fn alpha_in(alpha: Alpha, actions: usize, variables: usize) -> bool
 fn fits(set: usize, actions: usize) -> bool
     ensures { Decides result (set < 2 ^ actions) }
 {
-    if actions >= 64 {
-        return true;
-    }
-    set >> actions == 0
+    actions >= 64 || set >> actions == 0
 }
 
 // Every value of a place means one thing, which is computed.

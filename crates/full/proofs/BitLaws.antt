@@ -1,5 +1,5 @@
 -- The bits of a number.
-use Rattle.std.proofs.Common.{◌≡◌, ℕ, zero, suc, ◌+◌, ◌*◌, ◌/◌, ◌%◌, ◌^◌, ◌<◌, ◌≤◌, Bool, true, false, not, ◌&&◌, ◌||◌, eqb, ltb, sym, refl, ap, ◌∙◌, ⊎_elim, zero-mul, arith, pow_mono}
+use Rattle.std.proofs.Common.{◌≡◌, ℕ, zero, suc, ◌+◌, ◌-◌, ◌*◌, ◌/◌, ◌%◌, ◌^◌, ◌<◌, ◌≤◌, Bool, true, false, not, ◌&&◌, ◌||◌, eqb, ltb, sym, refl, ap, ◌∙◌, ⊎_elim, zero-mul, arith, pow_mono}
 use native.Mathlib.Nat.{zero-div}
 use lib.Bits.{bit_and, bit_or, bit_xor}
 use Rattle.std.proofs.lemmas.Nat.{and_shr, or_shr, xor_shr, and_mod, or_mod, xor_mod, shr-shr, mod-pow-add}
@@ -37,6 +37,13 @@ or_bit a b m =
     ap (λ x. eqb (x % 2) 1) (or_shr a b m) ∙ ap (λ x. eqb x 1) (or_mod (a / 2 ^ m) (b / 2 ^ m) 1)
     ∙ or_low (a / 2 ^ m % 2) (b / 2 ^ m % 2) (omega arith) (omega arith)
 
+-- a set and itself
+pub or_same : (p : Bool) → (p || p) ≡ p
+or_same p = grind arith
+
+pub and_same : (p : Bool) → (p && p) ≡ p
+and_same p = grind arith
+
 xor_low : low bit_xor (λ p q. (p || q) && not (p && q))
 xor_low zero zero _ _ = refl
 xor_low zero (suc zero) _ _ = refl
@@ -52,10 +59,7 @@ xor_bit a b m =
     ∙ xor_low (a / 2 ^ m % 2) (b / 2 ^ m % 2) (omega arith) (omega arith)
 
 without : (p q : Bool) → ((q || (q && p)) && not (q && (q && p))) ≡ (q && not p)
-without true true = refl
-without true false = refl
-without false true = refl
-without false false = refl
+without p q = grind arith
 
 -- b without the bits of a
 pub without_bit : (a b m : ℕ) → bit (bit_xor b (bit_and b a)) m ≡ (bit b m && not (bit a m))
@@ -86,6 +90,17 @@ below8 P a b c d e f g h (suc (suc (suc (suc (suc zero))))) lt = f
 below8 P a b c d e f g h (suc (suc (suc (suc (suc (suc zero)))))) lt = g
 below8 P a b c d e f g h (suc (suc (suc (suc (suc (suc (suc zero))))))) lt = h
 below8 P a b c d e f g h (suc (suc (suc (suc (suc (suc (suc (suc m)))))))) lt = absurd (omega arith)
+
+not_low : (t u : ℕ) → t < 2 → u ≡ 1 - t → eqb u 1 ≡ not (eqb t 1)
+not_low zero u h e = ap (λ v. eqb v 1) e
+not_low (suc zero) u h e = ap (λ v. eqb v 1) e
+not_low (suc (suc t)) u h e = absurd (omega arith)
+
+-- the bits that a byte lacks
+pub not_bit : (a m : ℕ) → a < 256 → m < 8 → bit (255 - a) m ≡ not (bit a m)
+not_bit a m small lt =
+    not_low (a / 2 ^ m % 2) ((255 - a) / 2 ^ m % 2) (omega arith)
+    (below8 (λ k. (255 - a) / 2 ^ k % 2 ≡ 1 - a / 2 ^ k % 2) (omega arith) (omega arith) (omega arith) (omega arith) (omega arith) (omega arith) (omega arith) (omega arith) m lt)
 
 pub mask_0 : (m : ℕ) → m < 8 → bit 170 m ≡ bit m 0
 mask_0 = below8 (λ m. bit 170 m ≡ bit m 0) refl refl refl refl refl refl refl refl

@@ -1,8 +1,9 @@
 pub mod BitLaws
 pub mod Merging
 pub mod Runs
-pub mod Scanning
-pub mod Valuations
 pub mod Widths
+pub mod Splicing
+pub mod Valuations
 pub mod Members
 pub mod Comparing
+pub mod Scanning

@@ -1,54 +1,48 @@
 -- What rewritten bytes make of the sets.
-use Rattle.std.proofs.Common.{◌≡◌, ℕ, ◌+◌, ◌/◌, ◌%◌, ◌^◌, ◌<◌, ◌≤◌, Bool, true, false, cond, ◌&&◌, eqb, ltb, ◌≢◌, List, length, get_or, Some, None, Ok, Err, Option, sym, refl, ap, ◌∙◌, subst, ⊎_elim, arith}
+use Rattle.std.proofs.Common.{◌≡◌, ℕ, ◌+◌, ◌-◌, ◌/◌, ◌%◌, ◌^◌, ◌<◌, ◌≤◌, Bool, true, false, cond, ◌&&◌, eqb, ltb, List, ◌++◌, length, get_or, take, drop, Some, None, Ok, Err, Option, sym, refl, ap, ◌∙◌, subst, inl, inr, ⊎_elim, zero-add, arith, get_or-take, get_or-drop}
+use Rattle.std.proofs.Math.ListN.{get_or-append}
+use Rattle.std.proofs.Math.Seq.{get_or-append_right}
 use Rattle.std.proofs.lemmas.Bool.{cases_eq, cases_lt, lt-ltb, le-ltb, eq-eqb, ne_eqb, cond-true, cond-false, and_left, and_right, false≢true, true≢false}
-use Rattle.std.proofs.lemmas.Bool.Decides.{nat_tests}
 use Rattle.logic.specs.Codes.{bit}
 use Rattle.store.proofs.Refusals.{answers_ok}
 use Rattle.store.specs.Calls.{Answers}
 use Rattle.store.specs.declared.fault.Fault.{Fault}
 use Rattle.store.specs.declared.shape.Shape.{Shape}
-use Rattle.full.specs.Bytes.{width, start, bit_from, in_bytes, Rewritten, CodeMask}
-use Rattle.full.specs.Passes.{merge_bit, MergedSpan, Mended}
+use Rattle.full.specs.Bytes.{width, start, bit_from, in_bytes, Rewritten}
+use Rattle.full.specs.Passes.{Recoded}
 use Rattle.full.specs.Stores.{shape_bits, full_frame, full_sets, Altered}
-use Rattle.full.specs.declared.spans.Op.{Op}
-use Rattle.full.specs.declared.spans.Op.TheVariants.{Put, Join, Meet, Without}
-use Rattle.full.proofs.Widths.{codes_of_width, code_within, width_some, sets_apart}
+use Rattle.full.proofs.Splicing.{Spliced}
+use Rattle.full.proofs.Widths.{code_within, sets_apart}
 
--- A set that was merged into, byte by byte, and then mended. Its bits beyond the codes are in its first byte, if there
--- are any: there the mask gives the former ones back. A code's bit is in the mask, or in another byte.
-pub rewritten : (op : Op) (n : ℕ) (old mid new : List ℕ) (i at w mask : ℕ) (B : ℕ → ℕ → Bool) (S : ℕ → Bool)
-    → length new ≡ length old → at ≡ start n i → w ≡ width n → CodeMask n mask
-    → MergedSpan op old mid at w B → Mended mid new at (get_or old at 0) mask
-    → ((c : ℕ) → c < 2 ^ n → merge_bit op (bit_from old at c) (B (c / 8) (c % 8)) ≡ S c)
+-- the bits of a part of the bytes
+pub part_bits : (at k : ℕ) (bytes : List ℕ) (c : ℕ) → c / 8 < k → bit_from (take k (drop at bytes)) 0 c ≡ bit_from bytes at c
+part_bits at k bytes c h =
+    ap (λ b. bit b (c % 8)) (ap (λ p. get_or (take k (drop at bytes)) p 0) (zero-add (c / 8)) ∙ get_or-take k (drop at bytes) (c / 8) 0 h ∙ get_or-drop at bytes (c / 8) 0)
+
+-- the bits of bytes that were cut in two
+pub front_bits : (front back : List ℕ) (at c : ℕ) → at + c / 8 < length front → bit_from front at c ≡ bit_from (front ++ back) at c
+front_bits front back at c h = ap (λ b. bit b (c % 8)) (sym (get_or-append front back 0 (at + c / 8) h))
+
+pub back_bits : (front back : List ℕ) (at c : ℕ) → at ≡ length front → bit_from back 0 c ≡ bit_from (front ++ back) at c
+back_bits front back at c cut =
+    ap (λ b. bit b (c % 8)) (ap (λ p. get_or back p 0) (let e : 0 + c / 8 ≡ (at + c / 8) - length front = omega arith in e) ∙ sym (get_or-append_right front back (at + c / 8) 0 (omega arith)))
+
+-- A set of which the bytes were altered and put back.
+pub rewritten : (n : ℕ) (old new before part : List ℕ) (i at : ℕ) (S : ℕ → Bool) → at ≡ start n i → length part ≡ width n → Spliced old new part at
+    → ((c : ℕ) → c / 8 < width n → bit_from before 0 c ≡ bit_from old at c) → Recoded n before part S
     → Rewritten n old new true i S
-rewritten op n old mid new i at w mask B S long starts wide masks merged mended is = record {
-  long = long;
-  refused = λ e. absurd (true≢false e);
-  codes = λ _ c c<.
-      let x< = code_within n c c< in
-      let same : bit_from new at c ≡ bit_from mid at c = ⊎_elim
-      (λ first.
-      let here : at + c / 8 ≡ at = omega arith in
-      let low : c % 8 ≡ c = omega arith in
-      let on : bit mask (c % 8) ≡ true = masks (c % 8) (omega arith) ∙ lt-ltb (c % 8) (2 ^ n) (omega arith) in
-      ap (λ p. bit (get_or new p 0) (c % 8)) here ∙ mended.byte (c % 8) (omega arith)
-      ∙ cond-true (bit mask (c % 8)) _ _ on ∙ ap (λ p. bit (get_or mid p 0) (c % 8)) (sym here))
-      (λ behind. ap (λ b. bit b (c % 8)) (mended.others (at + c / 8) (λ e. behind (omega arith))))
-      (cases_eq (c / 8) 0) in
-      ap (λ a. bit_from new a c) (sym starts) ∙ same ∙ merged.span (c / 8) (c % 8) (omega arith) (omega arith) ∙ is c c<;
-  spare = λ c ge lt.
-      ap (λ a. bit_from new a c) (sym starts) ∙ ⊎_elim
-      (λ all. absurd (omega arith))
-      (λ one.
-      let here : at + c / 8 ≡ at = omega arith in
-      let off : bit mask (c % 8) ≡ false = masks (c % 8) (omega arith) ∙ le-ltb (c % 8) (2 ^ n) (omega arith) in
-      ap (λ p. bit (get_or new p 0) (c % 8)) here ∙ mended.byte (c % 8) (omega arith)
-      ∙ cond-false (bit mask (c % 8)) _ _ off ∙ ap (λ p. bit (get_or old p 0) (c % 8)) (sym here))
-      (codes_of_width n) ∙ ap (λ a. bit_from old a c) starts;
-  others = λ p out.
-      let ne : p ≢ at = λ e. ⊎_elim (λ below. omega arith) (λ above. omega (arith, width_some n)) out in
-      mended.others p ne ∙ merged.others p (⊎_elim (λ below. grind (arith, nat_tests)) (λ above. grind (arith, nat_tests)) out);
-}
+rewritten n old new before part i at S starts wide spliced was coded =
+    let put : (c : ℕ) → c / 8 < width n → bit_from new (start n i) c ≡ bit_from part 0 c =
+    λ c h. ap (λ a. bit_from new a c) (sym starts)
+    ∙ ap (λ b. bit b (c % 8)) (spliced.inside (c / 8) (omega arith) ∙ ap (λ p. get_or part p 0) (sym (zero-add (c / 8)))) in
+    record {
+      long = spliced.long;
+      refused = λ e. absurd (true≢false e);
+      codes = λ _ c c<. put c (code_within n c c<) ∙ coded.codes c c<;
+      spare = λ c ge lt. let h : c / 8 < width n = omega arith in
+          put c h ∙ coded.spare c ge lt ∙ was c h ∙ ap (λ a. bit_from old a c) starts;
+      others = λ p out. spliced.others p (⊎_elim (λ below. inl (omega arith)) (λ above. inr (omega arith)) out);
+    }
 
 -- a set that is altered by a call that leaves every bit as it was
 pub unaltered : (n : ℕ) (bytes : List ℕ) (i : ℕ) (S : ℕ → Bool) → ((c : ℕ) → c < 2 ^ n → bit_from bytes (start n i) c ≡ S c) → Rewritten n bytes bytes true i S
@@ -116,35 +110,30 @@ refused s bytes e o i S is = record {
   bytes = untouched (shape_bits s) bytes i S;
 }
 
--- what each operation makes of codes beyond the last, and of a set and itself
-pub merge_none : (op : Op) (p q : Bool) → p ≡ false → q ≡ false → merge_bit op p q ≡ false
-merge_none Put p q hp hq = hq
-merge_none Join p q hp hq = grind arith
-merge_none Meet p q hp hq = grind arith
-merge_none Without p q hp hq = grind arith
+-- two codes that are in no set make none
+pub none_beyond : (on : Bool → Bool → Bool) (p q : Bool) → on false false ≡ false → p ≡ false → q ≡ false → on p q ≡ false
+none_beyond on p q none hp hq = ap (λ t. on t q) hp ∙ ap (on false) hq ∙ none
 
 -- what `start_of` finds
-abbrev pub Found : ℕ → ℕ → ℕ → ℕ → Type 0
-Found len n i at = (i < len / width n) × (at ≡ start n i) × (at + width n ≤ len)
+abbrev pub Found : Shape → ℕ → ℕ → ℕ → Type 0
+Found s len i at = (i < len / width (shape_bits s)) × (at ≡ start (shape_bits s) i) × (at + width (shape_bits s) ≤ len)
 
-pub inside : (s : Shape) (bits len i at : ℕ) → bits ≡ shape_bits s → Found len bits i at → i < len / width (shape_bits s)
-inside s bits len i at counted found = let P : ℕ → Type 0 = λ n. i < len / width n in subst P counted found.0
+pub found_bits : (s : Shape) (bytes : List ℕ) (i at c : ℕ) → Found s (length bytes) i at → c < 2 ^ shape_bits s → full_sets s bytes i c ≡ bit_from bytes at c
+found_bits s bytes i at c found c< = by_bits (shape_bits s) bytes i c found.0 c< ∙ ap (λ a. bit_from bytes a c) (sym found.1)
 
-pub found_bits : (s : Shape) (bits : ℕ) (bytes : List ℕ) (i at c : ℕ) → bits ≡ shape_bits s → Found (length bytes) bits i at → c < 2 ^ shape_bits s → full_sets s bytes i c ≡ bit_from bytes at c
-found_bits s bits bytes i at c counted found c< =
-    by_bits (shape_bits s) bytes i c (inside s bits (length bytes) i at counted found) c<
-    ∙ ap (λ a. bit_from bytes a c) (sym (found.1 ∙ ap (λ n. start n i) counted))
+-- the bytes of the set i, by themselves, have its codes
+pub set_bits : (s : Shape) (bytes before : List ℕ) (i at c : ℕ) → Found s (length bytes) i at
+    → ((d : ℕ) → d / 8 < width (shape_bits s) → bit_from before 0 d ≡ bit_from bytes at d) → c < 2 ^ shape_bits s → bit_from before 0 c ≡ full_sets s bytes i c
+set_bits s bytes before i at c found was c< = was c (code_within (shape_bits s) c c<) ∙ sym (found_bits s bytes i at c found c<)
 
--- a call that merged into the set i and mended it
-pub merged_set : (op : Op) (s : Shape) (bits : ℕ) (old mid new : List ℕ) (i at w mask : ℕ) (o : Option Fault) (B : ℕ → ℕ → Bool) (S : ℕ → Bool)
-    → bits ≡ shape_bits s → Found (length old) bits i at → w ≡ width bits → CodeMask bits mask → length new ≡ length old
-    → MergedSpan op old mid at w B → Mended mid new at (get_or old at 0) mask → o ≡ None
-    → ((c : ℕ) → c < 2 ^ shape_bits s → merge_bit op (full_sets s old i c) (B (c / 8) (c % 8)) ≡ S c)
-    → ((c : ℕ) → 2 ^ shape_bits s ≤ c → S c ≡ false)
+-- a call that altered the bytes of the set i
+pub altered_part : (s : Shape) (old new before part : List ℕ) (i at : ℕ) (o : Option Fault) (R S : ℕ → Bool)
+    → o ≡ None → Found s (length old) i at → length part ≡ width (shape_bits s) → Spliced old new part at
+    → ((c : ℕ) → c / 8 < width (shape_bits s) → bit_from before 0 c ≡ bit_from old at c) → Recoded (shape_bits s) before part R
+    → ((c : ℕ) → c < 2 ^ shape_bits s → R c ≡ S c) → ((c : ℕ) → 2 ^ shape_bits s ≤ c → S c ≡ false)
     → Altered s old new (Ok tt) o i S
-merged_set op s bits old mid new i at w mask o B S counted found wide masks long merged mended free is none =
-    let P : ℕ → Type 0 = λ n. CodeMask n mask in
+altered_part s old new before part i at o R S free found wide spliced was coded is none =
     altered s old new o i S free
-    (rewritten op (shape_bits s) old mid new i at w mask B S long (found.1 ∙ ap (λ n. start n i) counted) (wide ∙ ap width counted) (subst P counted masks) merged mended
-    (λ c c<. ap (λ t. merge_bit op t (B (c / 8) (c % 8))) (sym (found_bits s bits old i at c counted found c<)) ∙ is c c<))
-    (inside s bits (length old) i at counted found) none
+    (rewritten (shape_bits s) old new before part i at S found.1 wide spliced was
+    (record { codes = λ c c<. coded.codes c c< ∙ is c c<; spare = coded.spare }))
+    found.0 none

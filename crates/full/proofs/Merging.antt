@@ -1,39 +1,13 @@
--- A span of bytes that another is merged into, byte by byte.
-use Rattle.std.proofs.Common.{◌≡◌, ℕ, zero, suc, ◌+◌, ◌-◌, ◌*◌, ◌/◌, ◌%◌, ◌^◌, ◌<◌, ◌≤◌, Bool, cond, not, ◌&&◌, ◌||◌, eqb, ◌≢◌, List, length, get_or, set, ap, ◌∙◌, ⊎_elim, arith, get_or-set_other, get_or-set_same}
-use lib.Bits.{bit_and, bit_or, bit_xor}
+-- The bytes of a set that others are merged into, byte by byte.
+use Rattle.std.proofs.Common.{◌≡◌, ℕ, zero, suc, ◌+◌, ◌-◌, ◌*◌, ◌/◌, ◌%◌, ◌^◌, ◌<◌, ◌≤◌, Bool, true, false, cond, not, ◌&&◌, ◌||◌, eqb, List, length, get_or, set, refl, sym, ap, ◌∙◌, ⊎_elim, zero-add, arith, get_or-set_other, get_or-set_same}
+use lib.Bits.{bit_and, bit_or}
 use Rattle.std.proofs.lemmas.Nat.{shr-shr}
-use Rattle.std.proofs.lemmas.Bool.{cases_eq}
-use Rattle.std.proofs.lemmas.Bool.Decides.{nat_tests}
+use Rattle.std.proofs.lemmas.Bool.{cases_eq, cond-true, cond-false, lt-ltb, le-ltb}
 use Rattle.logic.specs.Codes.{bit}
-use Rattle.full.specs.Passes.{merge_bit, MergedSpan}
-use Rattle.full.specs.declared.spans.Op.{Op}
-use Rattle.full.proofs.BitLaws.{or_bit, and_bit, without_bit}
-
--- one byte more of a span
-pub merged_more : (op : Op) (old new : List ℕ) (at x v : ℕ) (B : ℕ → ℕ → Bool) → MergedSpan op old new at x B → at + x < length new
-    → ((m : ℕ) → m < 8 → bit v m ≡ merge_bit op (bit (get_or old (at + x) 0) m) (B x m))
-    → MergedSpan op old (set new (at + x) v) at (x + 1) B
-merged_more op old new at x v B have lt is = record {
-  others = λ k out. let ne : k ≢ at + x = grind (arith, nat_tests) in
-      get_or-set_other new (at + x) k v 0 ne ∙ have.others k (grind (arith, nat_tests));
-  span = λ y m y< m<. ⊎_elim
-      (λ e. let here : get_or (set new (at + x) v) (at + y) 0 ≡ v = rw e (get_or-set_same new (at + x) v 0 lt) in
-      ap (λ b. bit b m) here ∙ rw e (is m m<))
-      (λ ne. let apart : at + y ≢ at + x = λ e. ne (omega arith) in
-      ap (λ b. bit b m) (get_or-set_other new (at + x) (at + y) v 0 apart) ∙ have.span y m (omega arith) m<)
-      (cases_eq y x);
-}
-
--- a byte that is not yet reached
-pub merged_ahead : (op : Op) (old new : List ℕ) (at x k : ℕ) (B : ℕ → ℕ → Bool) → MergedSpan op old new at x B → (at ≤ k → at + x ≤ k) → get_or new k 0 ≡ get_or old k 0
-merged_ahead op old new at x k B have out = have.others k (grind (arith, nat_tests))
-
--- what is merged in, said otherwise
-pub span_like : (op : Op) (old new : List ℕ) (at count : ℕ) (B C : ℕ → ℕ → Bool) → MergedSpan op old new at count B → ((x m : ℕ) → x < count → m < 8 → B x m ≡ C x m) → MergedSpan op old new at count C
-span_like op old new at count B C have like = record {
-  others = have.others;
-  span = λ x m x< m<. have.span x m x< m< ∙ ap (merge_bit op (bit (get_or old (at + x) 0) m)) (like x m x< m<);
-}
+use Rattle.full.specs.Bytes.{width, bit_from, CodeMask}
+use Rattle.full.specs.Passes.{Merged, Mended, Recoded}
+use Rattle.full.proofs.BitLaws.{or_bit, and_bit, not_bit, full_byte}
+use Rattle.full.proofs.Widths.{codes_of_width, code_within}
 
 -- the bits below 3 of a code are those of its bit in a byte, the others those of its byte
 pub low_code : (b x m : ℕ) → b < 3 → bit m b ≡ bit (8 * x + m) b
@@ -52,7 +26,52 @@ chosen : (k p q : Bool) → ((p && k) || (q && not k)) ≡ cond k p q
 chosen k p q = grind arith
 
 -- the bits of x that the mask has, and those of `before` that it lacks
-pub mended_byte : (x before mask m : ℕ) → bit (bit_or (bit_and x mask) (bit_xor before (bit_and before mask))) m ≡ cond (bit mask m) (bit x m) (bit before m)
-mended_byte x before mask m =
-    or_bit (bit_and x mask) (bit_xor before (bit_and before mask)) m ∙ ap (λ t. t || bit (bit_xor before (bit_and before mask)) m) (and_bit x mask m)
-    ∙ ap (λ t. (bit x m && bit mask m) || t) (without_bit mask before m) ∙ chosen (bit mask m) (bit x m) (bit before m)
+mended_byte : (x before mask m : ℕ) → mask < 256 → m < 8 → bit (bit_or (bit_and x mask) (bit_and before (255 - mask))) m ≡ cond (bit mask m) (bit x m) (bit before m)
+mended_byte x before mask m small m< =
+    or_bit (bit_and x mask) (bit_and before (255 - mask)) m ∙ ap (λ t. t || bit (bit_and before (255 - mask)) m) (and_bit x mask m)
+    ∙ ap (λ t. (bit x m && bit mask m) || t) (and_bit before (255 - mask) m ∙ ap (λ t. bit before m && t) (not_bit mask m small m<))
+    ∙ chosen (bit mask m) (bit x m) (bit before m)
+
+pub mended : (span : List ℕ) (before mask : ℕ) → 0 < length span → mask < 256 → Mended span (set span 0 (bit_or (bit_and (get_or span 0 0) mask) (bit_and before (255 - mask)))) before mask
+mended span before mask some small = record {
+  others = λ k ne. get_or-set_other span 0 k _ 0 ne;
+  first = λ m m<. ap (λ b. bit b m) (get_or-set_same span 0 _ 0 some) ∙ mended_byte (get_or span 0 0) before mask m small m<;
+}
+
+-- where all bits of a byte are codes
+pub mended_whole : (span : List ℕ) (before mask : ℕ) → mask ≡ 255 → Mended span span before mask
+mended_whole span before mask whole = record {
+  others = λ k ne. refl;
+  first = λ m m<. sym (cond-true (bit mask m) _ _ (ap (λ t. bit t m) whole ∙ full_byte 1 m (omega arith) m<));
+}
+
+-- A set that was merged into, byte by byte, and then mended. Its bits beyond the codes are in its first byte, if there
+-- are any: there the mask gives the former ones back. A code's bit is in the mask, or in another byte.
+pub recoded : (on : Bool → Bool → Bool) (n : ℕ) (old mid new : List ℕ) (mask : ℕ) (B : ℕ → ℕ → Bool)
+    → length old ≡ width n → CodeMask n mask → Merged on old mid B → Mended mid new (get_or old 0 0) mask
+    → Recoded n old new (λ c. on (bit_from old 0 c) (B (c / 8) (c % 8)))
+recoded on n old mid new mask B wide masks merged mended = record {
+  codes = λ c c<.
+      let x< = code_within n c c< in
+      let same : bit_from new 0 c ≡ bit_from mid 0 c = ⊎_elim
+      (λ first.
+      let here : 0 + c / 8 ≡ 0 = omega arith in
+      let low : c % 8 ≡ c = omega arith in
+      let is : bit mask (c % 8) ≡ true = masks (c % 8) (omega arith) ∙ lt-ltb (c % 8) (2 ^ n) (omega arith) in
+      ap (λ p. bit (get_or new p 0) (c % 8)) here ∙ mended.first (c % 8) (omega arith)
+      ∙ cond-true (bit mask (c % 8)) _ _ is ∙ ap (λ p. bit (get_or mid p 0) (c % 8)) (sym here))
+      (λ behind. ap (λ b. bit b (c % 8)) (mended.others (0 + c / 8) (λ e. behind (omega arith))))
+      (cases_eq (c / 8) 0) in
+      let place = zero-add (c / 8) in
+      same ∙ ap (λ p. bit (get_or mid p 0) (c % 8)) place ∙ merged (c / 8) (c % 8) (omega arith) (omega arith)
+      ∙ ap (λ p. on (bit (get_or old p 0) (c % 8)) (B (c / 8) (c % 8))) (sym place);
+  spare = λ c ge lt.
+      ⊎_elim
+      (λ all. absurd (omega arith))
+      (λ one.
+      let here : 0 + c / 8 ≡ 0 = omega arith in
+      let off : bit mask (c % 8) ≡ false = masks (c % 8) (omega arith) ∙ le-ltb (c % 8) (2 ^ n) (omega arith) in
+      ap (λ p. bit (get_or new p 0) (c % 8)) here ∙ mended.first (c % 8) (omega arith)
+      ∙ cond-false (bit mask (c % 8)) _ _ off ∙ ap (λ p. bit (get_or old p 0) (c % 8)) (sym here))
+      (codes_of_width n);
+}

@@ -1,6 +1,6 @@
 -- The bytes of sets, side by side: which set a byte is of, and which of a set's bits are codes.
 use Rattle.std.proofs.Common.{◌≡◌, ℕ, ◌+◌, ◌-◌, ◌*◌, ◌/◌, ◌%◌, ◌^◌, ◌<◌, ◌≤◌, ◌⊎◌, ap, ◌∙◌, inl, inr, ⊎_elim, add-mul, one-mul, arith, pow_mono, pow-add}
-use Rattle.std.proofs.lemmas.Nat.{div-add-mod', mul-le, pow_pos}
+use Rattle.std.proofs.lemmas.Nat.{div-add-mod', mul-le, one_shl, pow_pos}
 use Rattle.std.proofs.lemmas.Bool.{cases_lt, cond-true, cond-false, le-leb, lt-leb}
 use Rattle.full.specs.Bytes.{width}
 use Rattle.full.proofs.Runs.{whole_runs}
@@ -56,3 +56,14 @@ pub width_whole : (n b : ℕ) → b < n → 3 ≤ b → width n % 2 ^ (b - 2) �
 width_whole n b lt h =
     let wide : width n ≡ 2 ^ (n - 3) = cond-false _ 1 (2 ^ (n - 3)) (lt-leb n 3 (omega arith)) in
     ap (λ t. t % 2 ^ (b - 2)) wide ∙ whole_runs (b - 2) (n - 3) (omega arith)
+
+pub width_within : (n : ℕ) → n ≤ 12 → width n ≤ 512
+width_within n h =
+    let top : 2 ^ n ≤ 2 ^ 12 = pow_mono {i = n} {j = 12} h in
+    ⊎_elim (λ all. omega arith) (λ one. omega arith) (codes_of_width n)
+
+pub width_most : (k : ℕ) → k ≤ 9 → 1 * 2 ^ k % 2 ^ 64 ≤ 512
+width_most k h =
+    let whole : (1 * 2 ^ k) % 2 ^ 64 ≡ 2 ^ k = one_shl k 64 (omega arith) in
+    let top : 2 ^ k ≤ 2 ^ 9 = pow_mono {i = k} {j = 9} h in
+    omega arith

@@ -7,6 +7,7 @@
 --   full_lawful   what every store promises of its frame and of its codes holds of this one
 --   full_coded
 --   Laid          the bit c of these bytes is set exactly if c is a valuation
+--   Shown         these are the bytes of the set i
 --
 -- Assumes nothing.
 use Rattle.std.specs.Prelude.{◌≡◌, ℕ, ◌*◌, ◌/◌, ◌^◌, ◌<◌, Bool, true, List, length, is_ok, Option, Result}
@@ -18,7 +19,7 @@ use Rattle.store.specs.Frames.{Frame, Lawful}
 use Rattle.store.specs.Shapes.{shape_actions, shape_variables, shape_limits}
 use Rattle.store.specs.declared.fault.Fault.{Fault}
 use Rattle.store.specs.declared.shape.Shape.{Shape}
-use Rattle.full.specs.Bytes.{width, bit_from, in_bytes, Rewritten}
+use Rattle.full.specs.Bytes.{width, start, bit_from, in_bytes, Rewritten}
 
 abbrev pub shape_bits : Shape → ℕ
 shape_bits s = shape_actions s * shape_variables s
@@ -40,6 +41,11 @@ pub record Altered (s : Shape) (old new : List ℕ) (r : Result (Unit {0}) Fault
 
 abbrev pub Laid : Shape → List ℕ → Type 0
 Laid s bytes = (c : ℕ) → bit_from bytes 0 c ≡ valuation (shape_actions s) (shape_variables s) c
+
+pub record Shown (s : Shape) (bytes : List ℕ) (i : ℕ) (span : List ℕ) : Type 0 where
+  pub inside : i < length bytes / width (shape_bits s)
+  pub long : length span ≡ width (shape_bits s)
+  pub bits : (c : ℕ) → c / 8 < width (shape_bits s) → bit_from span 0 c ≡ bit_from bytes (start (shape_bits s) i) c
 
 pub full_lawful : (s : Shape) (bytes : List ℕ) → Lawful (full_frame s bytes)
 full_lawful s bytes = record { limits = shape_limits s; valuations = λ c e. (valuation_decides (shape_actions s) (shape_variables s) c).0 e }

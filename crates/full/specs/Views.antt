@@ -16,7 +16,7 @@ use Rattle.full.specs.Stores.{shape_bits, full_frame, full_sets}
 use Rattle.full.specs.declared.full.Full.{Full}
 
 abbrev pub shape_of : Full → Shape
-shape_of s = s.universe.shape
+shape_of s = s.universe.layout.shape
 
 abbrev pub bytes_of : Full → List ℕ
 bytes_of s = s.cells.now

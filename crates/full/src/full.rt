@@ -5,9 +5,7 @@ ghost use Rattle.store.specs.Calls.{one_set, two_sets, set_and_bit, Alters};
 ghost use Rattle.full.specs.Stores.{full_lawful, full_coded};
 ghost use Rattle.full.specs.Views.{shape_of, bytes_of, frame_of, sets_of, Rewrites};
 
-use crate::spans::Op;
 use crate::universe::Universe;
-use crate::{layout, sets};
 use store::calls::Store;
 use store::fault::Fault;
 use store::shape::Shape;
@@ -40,15 +38,15 @@ impl<'a> Store for Full<'a> {
     ghost coded = { λ s. full_coded (shape_of s) (bytes_of s) };
 
     fn actions(&self) -> usize {
-        self.universe.shape.actions()
+        self.universe.layout.shape.actions()
     }
 
     fn variables(&self) -> usize {
-        self.universe.shape.variables()
+        self.universe.layout.shape.variables()
     }
 
     fn set_count(&self) -> usize {
-        layout::sets_in(self.universe.bits, self.cells.len())
+        self.universe.layout.sets_in(self.cells.len())
     }
 
     fn clear(&mut self, i: usize) -> Result<(), Fault>
@@ -58,7 +56,7 @@ impl<'a> Store for Full<'a> {
         ensures lent { self.new.cells.ghost_name ≡ self.old.cells.ghost_name }
     {
         let Full { universe, cells } = self;
-        sets::clear(universe, cells, i)
+        universe.clear(cells, i)
     }
 
     fn fill(&mut self, i: usize) -> Result<(), Fault>
@@ -68,7 +66,7 @@ impl<'a> Store for Full<'a> {
         ensures lent { self.new.cells.ghost_name ≡ self.old.cells.ghost_name }
     {
         let Full { universe, cells } = self;
-        sets::merge_universe(Op::Put, universe, cells, i)
+        universe.fill(cells, i)
     }
 
     fn copy(&mut self, i: usize, j: usize) -> Result<(), Fault>
@@ -78,7 +76,7 @@ impl<'a> Store for Full<'a> {
         ensures lent { self.new.cells.ghost_name ≡ self.old.cells.ghost_name }
     {
         let Full { universe, cells } = self;
-        sets::merge_sets(Op::Put, universe, cells, i, j)
+        universe.layout.copy(cells, i, j)
     }
 
     fn join(&mut self, i: usize, j: usize) -> Result<(), Fault>
@@ -88,7 +86,7 @@ impl<'a> Store for Full<'a> {
         ensures lent { self.new.cells.ghost_name ≡ self.old.cells.ghost_name }
     {
         let Full { universe, cells } = self;
-        sets::merge_sets(Op::Join, universe, cells, i, j)
+        universe.layout.join(cells, i, j)
     }
 
     fn meet(&mut self, i: usize, j: usize) -> Result<(), Fault>
@@ -98,7 +96,7 @@ impl<'a> Store for Full<'a> {
         ensures lent { self.new.cells.ghost_name ≡ self.old.cells.ghost_name }
     {
         let Full { universe, cells } = self;
-        sets::merge_sets(Op::Meet, universe, cells, i, j)
+        universe.layout.meet(cells, i, j)
     }
 
     fn flip(&mut self, i: usize) -> Result<(), Fault>
@@ -108,7 +106,7 @@ impl<'a> Store for Full<'a> {
         ensures lent { self.new.cells.ghost_name ≡ self.old.cells.ghost_name }
     {
         let Full { universe, cells } = self;
-        sets::merge_universe(Op::Without, universe, cells, i)
+        universe.flip(cells, i)
     }
 
     fn pick(&mut self, i: usize, b: usize) -> Result<(), Fault>
@@ -118,18 +116,18 @@ impl<'a> Store for Full<'a> {
         ensures lent { self.new.cells.ghost_name ≡ self.old.cells.ghost_name }
     {
         let Full { universe, cells } = self;
-        sets::pick(universe, cells, i, b)
+        universe.layout.pick_set(cells, i, b)
     }
 
     fn same(&self, i: usize, j: usize) -> Result<bool, Fault> {
-        sets::same(&self.universe, self.cells, i, j)
+        self.universe.layout.same(self.cells, i, j)
     }
 
     fn has(&self, i: usize, c: usize) -> Result<bool, Fault> {
-        sets::has(&self.universe, self.cells, i, c)
+        self.universe.layout.has(self.cells, i, c)
     }
 
     fn next(&self, i: usize, c: usize) -> Result<Option<usize>, Fault> {
-        sets::next(&self.universe, self.cells, i, c)
+        self.universe.layout.next(self.cells, i, c)
     }
 }

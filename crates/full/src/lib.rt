@@ -4,6 +4,7 @@
 pub mod full;
 mod laying;
 mod layout;
+mod masking;
 mod scan;
 mod sets;
 mod spans;

@@ -1,85 +1,58 @@
-// Passes that read a span of bytes: `count` bytes from the byte `at` on.
-ghost use Rattle.std.specs.Prelude.{◌≡◌, ℕ, ◌+◌, ◌*◌, ◌/◌, ◌<◌, ◌≤◌, length};
-ghost use Rattle.logic.specs.Codes.{bit};
+// Passes that read the bytes of a span.
+ghost use Rattle.std.specs.Prelude.{◌≡◌, ◌*◌, ◌/◌, ◌<◌, ◌≤◌, length};
+ghost use Rattle.store.specs.Least.{Least};
 ghost use Rattle.full.specs.Bytes.{bit_from};
-ghost use Rattle.full.specs.Passes.{Differ, FirstBit};
+ghost use Rattle.full.specs.Passes.{Differ};
 
-// Whether the bit c from the byte `at` on is set.
-pub(crate) fn test_bit(cells: &[u8], at: usize, c: usize) -> bool
-    requires { at + c / 8 < length cells.now }
-    ensures { result ≡ bit_from cells.now at c }
+// Whether the bit c is set.
+pub(crate) fn test_bit(span: &[u8], c: usize) -> bool
+    requires { c / 8 < length span.now }
+    ensures { result ≡ bit_from span.now 0 c }
 {
-    (cells[at + c / 8] >> (c % 8)) % 2 == 1
+    (span[c / 8] >> (c % 8)) % 2 == 1
 }
 
 // The bits at which two spans differ in some byte. It reads to the end: a way out would cost the vectors.
-pub(crate) fn differs(cells: &[u8], at: usize, with: usize, count: usize) -> u8
-    requires fits { at + count ≤ length cells.now }
-    requires with_fits { with + count ≤ length cells.now }
-    ensures { Differ cells.now at with count result }
+pub(crate) fn differs(first: &[u8], second: &[u8]) -> u8
+    requires { length first.now ≡ length second.now }
+    ensures { Differ first.now second.now result }
 {
-    let mut d = 0u8;
-    for x in 0..count {
-        d |= cells[at + x] ^ cells[with + x];
-    }
-    d
+    first
+        .iter()
+        .zip(second)
+        .fold(0, |found, (one, other)| found | (one ^ other))
 }
 
-// Eight bytes as one number, the first the lowest.
-fn word(cells: &[u8], p: usize) -> u64
-    requires { p + 8 ≤ length cells.now }
-    ensures { (d : ℕ) → d < 64 → bit result d ≡ bit_from cells.now p d }
+// The first bit that is set from the byte `first` of a span on.
+fn seek(span: &[u8], first: usize) -> Option<usize>
+    requires few { length span.now ≤ 512 }
+    requires within { first ≤ length span.now }
+    ensures { Least (bit_from span.now 0) (8 * first) result }
 {
-    u64::from_le_bytes([
-        cells[p],
-        cells[p + 1],
-        cells[p + 2],
-        cells[p + 3],
-        cells[p + 4],
-        cells[p + 5],
-        cells[p + 6],
-        cells[p + 7],
-    ])
-}
-
-// The first bit that is set from the byte `first` of a span on, or how many bits the span has.
-fn seek(cells: &[u8], at: usize, count: usize, first: usize) -> usize
-    requires fits { at + count ≤ length cells.now }
-    requires few { count ≤ 512 }
-    requires within { first ≤ count }
-    ensures { FirstBit cells.now at count (8 * first) result }
-{
-    let mut x = first;
-    while x + 8 <= count {
-        let v = word(cells, at + x);
-        if v != 0 {
-            return 8 * x + v.trailing_zeros() as usize;
+    let mut rest = &span[first..];
+    while let Some((word, tail)) = rest.split_first_chunk::<8>() {
+        let bits = u64::from_le_bytes(*word);
+        if bits != 0 {
+            return Some(8 * (span.len() - rest.len()) + bits.trailing_zeros() as usize);
         }
-        x += 8;
+        rest = tail;
     }
-    while x < count {
-        let v = cells[at + x];
-        if v != 0 {
-            return 8 * x + v.trailing_zeros() as usize;
-        }
-        x += 1;
-    }
-    8 * count
+    let x = span.len() - rest.len() + rest.iter().position(|byte| *byte != 0)?;
+    Some(8 * x + span[x].trailing_zeros() as usize)
 }
 
-// The first bit from c on that is set in a span, or a number that is no bit of it.
-pub(crate) fn next_bit(cells: &[u8], at: usize, count: usize, c: usize) -> usize
-    requires fits { at + count ≤ length cells.now }
-    requires few { count ≤ 512 }
-    ensures { FirstBit cells.now at count c result }
+// The first bit from c on that is set in a span.
+pub(crate) fn next_bit(span: &[u8], c: usize) -> Option<usize>
+    requires { length span.now ≤ 512 }
+    ensures { Least (bit_from span.now 0) c result }
 {
     let first = c / 8;
-    if first >= count {
-        return 8 * count;
+    if first >= span.len() {
+        return None;
     }
-    let head = cells[at + first] >> (c % 8);
+    let head = span[first] >> (c % 8);
     if head != 0 {
-        return c + head.trailing_zeros() as usize;
+        return Some(c + head.trailing_zeros() as usize);
     }
-    seek(cells, at, count, first + 1)
+    seek(span, first + 1)
 }

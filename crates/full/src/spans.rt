@@ -1,82 +1,49 @@
-// Passes that alter a span of bytes: `count` bytes from the byte `at` on.
-ghost use Rattle.std.specs.Prelude.{◌≡◌, ℕ, ◌+◌, ◌-◌, ◌*◌, ◌/◌, ◌%◌, ◌^◌, ◌<◌, ◌≤◌, length, nat_eq, slice_index};
+// Passes that alter the bytes of a span.
+ghost use Rattle.std.specs.Prelude.{◌≡◌, ℕ, ◌-◌, ◌*◌, ◌+◌, ◌%◌, ◌^◌, ◌/◌, ◌<◌, ◌≤◌, ◌&&◌, ◌==◌, length, slice_index};
 ghost use Rattle.logic.specs.Codes.{bit};
-ghost use Rattle.full.specs.Passes.{Merged, MergedSpan, Mended};
-ghost use Rattle.full.specs.declared.spans.Op.TheVariants.{Meet};
+ghost use Rattle.full.specs.Passes.{Merged};
 
-// What becomes of a byte that another is merged into. Without: the other one's bits that it lacks.
-#[derive(Clone, Copy)]
-pub(crate) enum Op {
-    Put,
-    Join,
-    Meet,
-    Without,
-}
-
-fn merge(op: Op, a: u8, b: u8) -> u8
-    ensures { Merged op a b result }
+// Merges the bytes of another span into those of a span.
+pub(crate) fn merge<F: Fn(u8, u8) -> u8>(span: &mut [u8], source: &[u8], by: F)
+    requires call { F.IsAlwaysCallable by }
+    requires long { length span.old ≤ length source.now }
+    ensures { (x : ℕ) → x < length span.old → F.post by (slice_index span.old x) (slice_index source.now x) (slice_index span.new x) }
 {
-    match op {
-        Op::Put => b,
-        Op::Join => a | b,
-        Op::Meet => a & b,
-        Op::Without => b ^ (b & a),
+    for (x, byte) in span.iter_mut().enumerate() {
+        *byte = by(*byte, source[x]);
     }
 }
 
-// Merges into a span another span of the same bytes, behind it or clear of it.
-pub(crate) fn merge_span(op: Op, cells: &mut [u8], at: usize, count: usize, from: usize)
-    requires fits { at + count ≤ length cells.old }
-    requires from_fits { from + count ≤ length cells.old }
-    requires apart { from < at → from + count ≤ at }
-    ensures { MergedSpan op cells.old cells.new at count (λ x m. bit (slice_index cells.old (from + x)) m) }
+// Clears the bits of each byte that the mask lacks. In a function of its own the mask stays in a register.
+#[inline(never)]
+fn keep_mask(span: &mut [u8], mask: u8)
+    ensures { Merged ◌&&◌ span.old span.new (λ x m. bit mask m) }
 {
-    for x in 0..count {
-        cells[at + x] = merge(op, cells[at + x], cells[from + x]);
+    for byte in span.iter_mut() {
+        *byte &= mask;
     }
 }
 
-// Merges into a span the first bytes of another slice.
-pub(crate) fn merge_from(op: Op, cells: &mut [u8], at: usize, count: usize, source: &[u8])
-    requires fits { at + count ≤ length cells.old }
-    requires long { count ≤ length source.now }
-    ensures { MergedSpan op cells.old cells.new at count (λ x m. bit (slice_index source.now x) m) }
-{
-    for x in 0..count {
-        cells[at + x] = merge(op, cells[at + x], source[x]);
-    }
-}
-
-// Merges one byte into each byte of a span.
-pub(crate) fn merge_byte(op: Op, cells: &mut [u8], at: usize, count: usize, byte: u8)
-    requires { at + count ≤ length cells.old }
-    ensures { MergedSpan op cells.old cells.new at count (λ x m. bit byte m) }
-{
-    for x in 0..count {
-        cells[at + x] = merge(op, cells[at + x], byte);
-    }
-}
-
-// Clears the bytes whose number in the span lacks the bit k. The mask is made in u16, which keeps vectors short.
-fn keep_bytes(cells: &mut [u8], at: usize, count: u16, k: usize)
-    requires fits { at + count ≤ length cells.old }
+// Clears the bytes whose number in the span lacks the bit k.
+fn keep_bytes(span: &mut [u8], k: usize)
+    requires few { length span.old ≤ 512 }
     requires small { k < 16 }
-    ensures { MergedSpan Meet cells.old cells.new at count (λ x m. bit x k) }
+    ensures { Merged ◌&&◌ span.old span.new (λ x m. bit x k) }
 {
-    for x in 0..count {
-        let mask = ((x >> k) % 2) as u8 * 255;
-        cells[at + x as usize] = merge(Op::Meet, cells[at + x as usize], mask);
+    for (x, byte) in span.iter_mut().enumerate() {
+        *byte &= ((x as u16 >> k) % 2) as u8 * 255;
     }
 }
 
 // Clears every other run of bytes, from the first on.
-fn clear_runs(cells: &mut [u8], at: usize, run: usize, pairs: usize)
-    requires fits { at + pairs * (2 * run) ≤ length cells.old }
+fn clear_runs(span: &mut [u8], run: usize, pairs: usize)
+    requires whole { pairs * (2 * run) ≡ length span.old }
     requires some { (1 ≤ run) × (run ≤ 256) }
-    ensures { MergedSpan Meet cells.old cells.new at (pairs * (2 * run)) (λ x m. nat_eq (x / run % 2) 1) }
+    ensures { Merged ◌&&◌ span.old span.new (λ x m. x / run % 2 == 1) }
 {
     for q in 0..pairs {
-        merge_byte(Op::Put, cells, at + q * (2 * run), run, 0);
+        let start = q * (2 * run);
+        span[start..start + run].fill(0);
     }
 }
 
@@ -93,26 +60,17 @@ fn low_mask(b: usize) -> u8
 }
 
 // Clears the bits of a span whose numbers lack the bit b.
-pub(crate) fn pick(cells: &mut [u8], at: usize, count: usize, b: usize)
-    requires fits { at + count ≤ length cells.old }
-    requires few { count ≤ 512 }
+pub(crate) fn pick(span: &mut [u8], b: usize)
+    requires few { length span.old ≤ 512 }
     requires small { b < 12 }
-    requires whole { 3 ≤ b → count % 2 ^ (b - 2) ≡ 0 }
-    ensures { MergedSpan Meet cells.old cells.new at count (λ x m. bit (8 * x + m) b) }
+    requires whole { 3 ≤ b → length span.old % 2 ^ (b - 2) ≡ 0 }
+    ensures { Merged ◌&&◌ span.old span.new (λ x m. bit (8 * x + m) b) }
 {
     if b < 3 {
-        merge_byte(Op::Meet, cells, at, count, low_mask(b));
+        keep_mask(span, low_mask(b));
     } else if b < 9 {
-        keep_bytes(cells, at, count as u16, b - 3);
+        keep_bytes(span, b - 3);
     } else {
-        clear_runs(cells, at, 1 << (b - 3), count >> (b - 2));
+        clear_runs(span, 1 << (b - 3), span.len() >> (b - 2));
     }
-}
-
-// Gives a byte the bits of `before` back that the mask lacks.
-pub(crate) fn mend(cells: &mut [u8], at: usize, before: u8, mask: u8)
-    requires { at < length cells.old }
-    ensures { Mended cells.old cells.new at before mask }
-{
-    cells[at] = (cells[at] & mask) | (before ^ (before & mask));
 }

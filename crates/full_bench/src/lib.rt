@@ -17,10 +17,10 @@ pub extern "C" fn full_bench(
     bit: usize,
     times: usize,
 ) -> usize {
-    match Shape::new(actions, variables) {
-        Ok(shape) => repeated(&mut Full::open(shape, cells), call, bit, times).unwrap_or(0),
-        Err(_) => 0,
-    }
+    let Ok(shape) = Shape::new(actions, variables) else {
+        return 0;
+    };
+    repeated(&mut Full::open(shape, cells), call, bit, times).unwrap_or(0)
 }
 
 fn repeated(full: &mut Full, call: u8, bit: usize, times: usize) -> Result<usize, Fault> {
@@ -31,6 +31,7 @@ fn repeated(full: &mut Full, call: u8, bit: usize, times: usize) -> Result<usize
     Ok(sum)
 }
 
+// C hands the call over as its number.
 fn answer(full: &mut Full, call: u8, bit: usize, t: usize) -> Result<usize, Fault> {
     let j = 2 + t % 2;
     match call {
@@ -41,8 +42,8 @@ fn answer(full: &mut Full, call: u8, bit: usize, t: usize) -> Result<usize, Faul
         4 => full.meet(1, j)?,
         5 => full.flip(1)?,
         6 => full.pick(1, bit)?,
-        7 => return Ok(if full.same(1, j)? { 1 } else { 0 }),
-        8 => return Ok(if full.has(1, t % 4096)? { 1 } else { 0 }),
+        7 => return full.same(1, j).map(usize::from),
+        8 => return full.has(1, t % 4096).map(usize::from),
         9 => return Ok(full.next(1, t % 8)?.unwrap_or(4096)),
         _ => {}
     }

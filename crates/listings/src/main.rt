@@ -15,9 +15,12 @@ use store::single::Single;
 
 const CODES: usize = 4096;
 
-fn print_refused(rt: &HostRuntime, fault: Fault) -> io::Result<()> {
-    let number = fault.number();
-    println!(rt; "refused {number}")
+// Where a call is refused, by what.
+fn print_refusal<T: Drop>(rt: &HostRuntime, answer: Result<T, Fault>) -> io::Result<()> {
+    match answer {
+        Ok(_) => Ok(()),
+        Err(fault) => println!(rt; "{fault}"),
+    }
 }
 
 fn print_code(rt: &HostRuntime, code: Option<usize>) -> io::Result<()> {
@@ -27,154 +30,99 @@ fn print_code(rt: &HostRuntime, code: Option<usize>) -> io::Result<()> {
     }
 }
 
-// The codes that next names, from 0 on.
-fn print_listed<S: Store>(rt: &HostRuntime, bench: &Bench<S>, state: usize) -> io::Result<()> {
+// The codes that a question names, from 0 on.
+fn print_codes<F: Fn(usize) -> Result<Option<usize>, Fault>>(
+    rt: &HostRuntime,
+    ask: F,
+) -> io::Result<()>
+    requires { F.IsAlwaysCallable ask }
+{
     let mut from = 0;
     for _ in 0..CODES {
-        match bench.next(state, from) {
-            Ok(Some(c)) => {
-                print!(rt; " {c}")?;
-                from = c.saturating_add(1);
-            }
-            _ => return Ok(()),
-        }
-    }
-    Ok(())
-}
-
-// The codes that least names, from 0 on.
-fn print_least<S: Store>(rt: &HostRuntime, bench: &Bench<S>, state: usize) -> io::Result<()> {
-    let mut from = 0;
-    for _ in 0..CODES {
-        match bench.least(state, from) {
-            Ok(Some(c)) => {
-                print!(rt; " {c}")?;
-                from = c.saturating_add(1);
-            }
-            _ => return Ok(()),
-        }
+        let Ok(Some(code)) = ask(from) else {
+            return Ok(());
+        };
+        print!(rt; " {code}")?;
+        from = code.saturating_add(1);
     }
     Ok(())
 }
 
 fn print_state<S: Store>(rt: &HostRuntime, bench: &Bench<S>, state: usize) -> io::Result<()> {
     print!(rt; "state {state} lists")?;
-    print_listed(rt, bench, state)?;
+    print_codes(rt, |from| bench.next(state, from))?;
     match bench.count(state) {
         Ok(codes) => print!(rt; " count {codes} smallest")?,
-        Err(fault) => return print_refused(rt, fault),
+        Err(fault) => return println!(rt; "{fault}"),
     }
     match bench.smallest(state) {
         Ok(code) => print_code(rt, code)?,
-        Err(fault) => return print_refused(rt, fault),
+        Err(fault) => return println!(rt; "{fault}"),
     }
     print!(rt; " least")?;
-    print_least(rt, bench, state)?;
+    print_codes(rt, |from| bench.least(state, from))?;
     println!(rt; "")
 }
 
-fn print_bench<S: Store + Drop>(
-    rt: &HostRuntime,
-    make: &str,
-    model: &Model,
-    formula: &Formula,
-    store: S,
-) -> io::Result<()> {
-    let mut bench = Bench::open(model, store);
-    let printed = print_calls(rt, make, model, formula, &mut bench);
-    let _ = bench.into_store();
-    printed
+// A formula over a model, and where its listings go.
+#[derive(Clone, Copy)]
+struct Listing<'a> {
+    rt: &'a HostRuntime,
+    model: &'a Model,
+    formula: &'a Formula,
 }
 
-// Nothing is judged before, and a refused judge after an accepted one leaves what is listed.
-fn print_calls<S: Store>(
-    rt: &HostRuntime,
-    make: &str,
-    model: &Model,
-    formula: &Formula,
-    bench: &mut Bench<S>,
-) -> io::Result<()> {
-    if let Err(fault) = bench.count(0) {
-        print_refused(rt, fault)?;
+impl<'a> Listing<'a> {
+    // Nothing is judged before, and a refused judge after an accepted one leaves what is listed.
+    fn print_bench<S: Store + Drop>(&self, make: &str, store: S) -> io::Result<()> {
+        let rt = self.rt;
+        let mut bench = Bench::open(self.model, store);
+        print_refusal(rt, bench.count(0))?;
+        match bench.judge(self.formula) {
+            Ok(rounds) => println!(rt; "{make} rounds {rounds}")?,
+            Err(fault) => println!(rt; "{fault}")?,
+        }
+        print_refusal(rt, bench.judge(&Formula::BLANK))?;
+        for state in 0..self.model.table.state_count() {
+            print_state(rt, &bench, state)?;
+        }
+        print_refusal(rt, bench.next(64, 0))?;
+        print_refusal(rt, bench.holds(0, usize::MAX))?;
+        print_refusal(rt, bench.least(0, usize::MAX))
     }
-    match bench.judge(formula) {
-        Ok(rounds) => println!(rt; "{make} rounds {rounds}")?,
-        Err(fault) => print_refused(rt, fault)?,
-    }
-    if let Err(fault) = bench.judge(&Formula::BLANK) {
-        print_refused(rt, fault)?;
-    }
-    for state in 0..model.table.states.min(64) {
-        print_state(rt, bench, state)?;
-    }
-    if let Err(fault) = bench.next(64, 0) {
-        print_refused(rt, fault)?;
-    }
-    if let Err(fault) = bench.holds(0, usize::MAX) {
-        print_refused(rt, fault)?;
-    }
-    if let Err(fault) = bench.least(0, usize::MAX) {
-        print_refused(rt, fault)?;
-    }
-    Ok(())
-}
 
-fn print_fixed<S: Store + Drop>(
-    rt: &HostRuntime,
-    make: &str,
-    model: &Model,
-    formula: &Formula,
-    below: S,
-    mask: usize,
-) -> io::Result<()> {
-    print_bench(rt, make, model, formula, Fixed::new(below, mask))
-}
-
-fn print_single(
-    rt: &HostRuntime,
-    model: &Model,
-    formula: &Formula,
-    shape: Shape,
-    bytes: &mut [u8],
-) -> io::Result<()> {
-    match Single::open(shape, shape.codes() - 1, bytes) {
-        Ok(store) => print_bench(rt, "single", model, formula, store),
-        Err(_) => println!(rt; "no valuation"),
+    fn print_fixed<S: Store + Drop>(&self, make: &str, below: S, mask: usize) -> io::Result<()> {
+        self.print_bench(make, Fixed::new(below, mask))
     }
-}
 
-// The mask asks for action 1 of the first variable, which the valuation of action 0 alone lacks.
-fn print_empty(
-    rt: &HostRuntime,
-    model: &Model,
-    formula: &Formula,
-    shape: Shape,
-    bytes: &mut [u8],
-) -> io::Result<()> {
-    let mut code = 0;
-    for y in 0..shape.variables() {
-        code |= 1usize << (y * shape.actions()).min(12);
+    fn print_single(&self, shape: Shape, bytes: &mut [u8]) -> io::Result<()> {
+        match Single::open(shape, shape.codes() - 1, bytes) {
+            Ok(store) => self.print_bench("single", store),
+            Err(_) => println!(self.rt; "no valuation"),
+        }
     }
-    match Single::open(shape, code, bytes) {
-        Ok(store) => print_fixed(rt, "empty", model, formula, store, 2),
-        Err(_) => println!(rt; "no valuation"),
-    }
-}
 
-fn print_makes(
-    rt: &HostRuntime,
-    model: &Model,
-    formula: &Formula,
-    bytes: &mut [u8],
-) -> io::Result<()> {
-    let shape = match Shape::new(formula.actions(), formula.variables()) {
-        Ok(shape) => shape,
-        Err(_) => return println!(rt; "no shape"),
-    };
-    print_bench(rt, "full", model, formula, Full::open(shape, bytes))?;
-    print_fixed(rt, "fixed", model, formula, Full::open(shape, bytes), 1)?;
-    print_single(rt, model, formula, shape, bytes)?;
-    print_empty(rt, model, formula, shape, bytes)
+    // The mask asks for action 1 of the first variable, which the valuation of action 0 alone lacks.
+    fn print_empty(&self, shape: Shape, bytes: &mut [u8]) -> io::Result<()> {
+        let mut code = 0;
+        for y in 0..shape.variables() {
+            code |= 1usize << (y * shape.actions()).min(12);
+        }
+        match Single::open(shape, code, bytes) {
+            Ok(store) => self.print_fixed("empty", store, 2),
+            Err(_) => println!(self.rt; "no valuation"),
+        }
+    }
+
+    fn print_makes(&self, bytes: &mut [u8]) -> io::Result<()> {
+        let Ok(shape) = Shape::new(self.formula.actions(), self.formula.variables()) else {
+            return println!(self.rt; "no shape");
+        };
+        self.print_bench("full", Full::open(shape, bytes))?;
+        self.print_fixed("fixed", Full::open(shape, bytes), 1)?;
+        self.print_single(shape, bytes)?;
+        self.print_empty(shape, bytes)
+    }
 }
 
 fn main(rt: HostRuntime) -> io::Result<()> {
@@ -192,7 +140,12 @@ fn main(rt: HostRuntime) -> io::Result<()> {
             Ok(left) => rest = left,
             Err(_) => return Ok(()),
         }
-        print_makes(&rt, &model, &formula, bytes.as_mut_slice())?;
+        let listing = Listing {
+            rt: &rt,
+            model: &model,
+            formula: &formula,
+        };
+        listing.print_makes(bytes.as_mut_slice())?;
     }
     Ok(())
 }

@@ -1,11 +1,20 @@
--- The smallest member, found member by member. Assumes nothing.
-use Rattle.std.proofs.Common.{◌≡◌, ℕ, ◌+◌, ◌<◌, Bool, true, ◌&&◌, ltb, Some, None, Option, sym, refl, ap, subst, ⊎_elim, arith}
-use Rattle.std.proofs.lemmas.Bool.{both_ways, cases_eq, and_parts, and_from, ltb-true, lt-ltb}
-use Rattle.store.specs.Least.{Least}
-use Rattle.members.specs.Order.{Before}
-use Rattle.members.specs.Smallest.{Smallest, SmallestUnique, Earlier}
-use Rattle.members.proofs.Ordering.{before_orders}
-use Rattle.members.proofs.Walking.{member_more}
+-- The smallest member among the listed ones. Assumes nothing.
+use Rattle.std.proofs.Common.{◌≡◌, ℕ, ◌^◌, ◌<◌, Bool, true, false, List, length, Some, None, Option, sym, refl, ap, ◌∙◌, subst, ⊎_elim, slice_index, is_lt, Ordering, arith}
+use Rattle.std.proofs.lemmas.Bool.{both_ways, cases_eq}
+use Rattle.std.proofs.lemmas.Bool.Decides.{not_from_Decides}
+use Rattle.std.specs.Option.{MatchOption, IsSomeAnd, IfSome, option_map}
+use Rattle.std.specs.Ordering.{nat_cmp, ordering_then}
+use Rattle.std.specs.Fn.{CalledAt}
+use Rattle.std.specs.Iterator.{YieldsFirst}
+use Rattle.std.specs.Iterator.Runs.{Run, WholeRun, AnyItem, NoKeyBeyond, CallKeepsClosure}
+use Rattle.std.proofs.iter.Rest.{run_of_first}
+use denote.Param.Members.{Mut}
+use denote.Ref.{Bor}
+use lib.Count as count
+use Rattle.members.specs.Numbers.{Lists}
+use Rattle.members.specs.Smallest.{Smallest, SmallestUnique}
+use Rattle.members.proofs.Listing.{not_member}
+use Rattle.members.proofs.Ordering.{before_orders, before_decided}
 
 pub smallest_unique : SmallestUnique
 smallest_unique m None None p q = refl
@@ -17,41 +26,53 @@ smallest_unique m (Some c) (Some d) p q =
     (λ other. absurd (before_orders.not_both c d (p.1 d q.0 (λ e. other (sym e))) (q.1 c p.0 other)))
     (cases_eq c d)
 
--- the members below n
-abbrev pub below : (ℕ → Bool) → ℕ → ℕ → Bool
-below m n d = m d && ltb d n
+-- how a key, a code's ones and the code, is compared with another
+abbrev pub by_key : ℕ × ℕ → ℕ × ℕ → Ordering
+by_key j k = ordering_then (nat_cmp j.0 k.0) (nat_cmp j.1 k.1)
 
--- what comes before every other member below c + 1, from what it comes before among the members one by one
-first_among : (m : ℕ → Bool) (c r : ℕ) → m r ≡ true → r < c + 1 → ((d : ℕ) → d < c + 1 → m d ≡ true → (d ≡ r → ⊥) → Before r d)
-    → Smallest (below m (c + 1)) (Some r)
-first_among m c r here low all = (
-  and_from (m r) (ltb r (c + 1)) here (lt-ltb r (c + 1) low),
-  λ d e. let parts = and_parts (m d) (ltb d (c + 1)) e in all d (ltb-true d (c + 1) parts.1) parts.0,
-)
+item_is : (o : Option ℕ) (x : ℕ) → option_map (λ y. y) o ≡ Some x → o ≡ Some x
+item_is None x e = e
+item_is (Some y) x e = e
 
--- One member more, c: the first of the members so far and c is the first of them all.
-pub smallest_more : (m : ℕ → Bool) (a c r : ℕ) (o : Option ℕ) → Least m a (Some c) → Smallest (below m a) o → Earlier o c r → Smallest (below m (c + 1)) (Some r)
-smallest_more m a c r None least none e =
-    let P : ℕ → Type 0 = λ d. (d ≡ c → ⊥) → Before c d in
-    let lacks : (d : ℕ) → d < a → m d ≡ true → P d = λ d lt here. absurd (both_ways (below m a d) (none d) (and_from (m d) (ltb d a) here (lt-ltb d a lt))) in
-    let Q : ℕ → Type 0 = λ x. Smallest (below m (c + 1)) (Some x) in
-    subst Q (sym e) (first_among m c c least.1 (omega arith) (member_more m P a c least lacks (λ ne. absurd (ne refl))))
-smallest_more m a c r (Some b) least h e =
-    let here = and_parts (m b) (ltb b a) h.0 in
-    let low : b < c = (let lt = ltb-true b a here.1 in let le = least.0 in omega arith) in
-    let others : (d : ℕ) → d < a → m d ≡ true → (d ≡ b → ⊥) → Before b d = λ d lt has. h.1 d (and_from (m d) (ltb d a) has (lt-ltb d a lt)) in
-    let Q : ℕ → Type 0 = λ x. Smallest (below m (c + 1)) (Some x) in
-    ⊎_elim
-    (λ new.
-    let P : ℕ → Type 0 = λ d. (d ≡ c → ⊥) → Before c d in
-    let after : (d : ℕ) → d < a → m d ≡ true → P d = λ d lt has _.
-    ⊎_elim
-    (λ same. let B : ℕ → Type 0 = Before c in subst B (sym same) new.0)
-    (λ other. before_orders.carries c b d new.0 (others d lt has other))
-    (cases_eq d b) in
-    subst Q (sym new.1) (first_among m c c least.1 (omega arith) (member_more m P a c least after (λ ne. absurd (ne refl)))))
-    (λ kept.
-    let P : ℕ → Type 0 = λ d. (d ≡ b → ⊥) → Before b d in
-    let last : P c = λ ne. ⊎_elim (λ before. before) (λ before. absurd (kept.0 before)) (before_orders.either b c (λ same. ne (sym same))) in
-    subst Q (sym kept.1) (first_among m c b here.0 (omega arith) (member_more m P a c least others last)))
-    e
+-- a whole run gives each entry of the list at its place
+module _ (cs : List ℕ) (p : Run {S = List ℕ} {A = ℕ} (YieldsFirst (λ rest. rest))) (from : p.from ≡ cs) (whole : p.whole ≡ true) where
+  run_long : p.len ≡ length cs
+  run_long = (run_of_first (λ rest. rest) p).1.1 whole ∙ ap length from
+
+  run_at : (i : ℕ) → i < length cs → p.at i ≡ Some (slice_index cs i)
+  run_at i low =
+      item_is (p.at i) (slice_index cs i)
+      ((run_of_first (λ rest. rest) p).1.2 i 0 (let long = run_long in omega arith) ∙ ap (λ l. Some (slice_index l i)) from)
+
+-- the listed one whose key no other's precedes, as `min_by_key` finds it
+pub smallest_listed : {F : Type 0} (m : ℕ → Bool) (cs : List ℕ) → Lists m cs → ((c : ℕ) → m c ≡ true → c < 2 ^ 64)
+    → (g : Mut F (Bor ℕ × Unit {0}) (ℕ × ℕ)) (f : F) → CallKeepsClosure g f → ((c : ℕ) (k : ℕ × ℕ) → CalledAt g f c k f → k ≡ (count.ones c, c))
+    → (o : Option ℕ)
+    → WholeRun {S = List ℕ} {A = ℕ} (YieldsFirst (λ rest. rest)) cs (λ p. MatchOption o (p.len ≡ 0) (λ b. AnyItem p (λ x. x ≡ b) × NoKeyBeyond p g f is_lt by_key b))
+    → Smallest m o
+smallest_listed m cs lists small g f keeps tells None run =
+    let long = run_long cs run.0 run.1 run.2 in
+    let none = run.3 in
+    λ c. not_member (m c) (λ here. let w = lists.whole c here in let low = w.1 in absurd (omega arith))
+smallest_listed {F} m cs lists small g f keeps tells (Some b) run =
+    let long = run_long cs run.0 run.1 run.2 in
+    let place = run.3.0 in
+    let within = place.1 in
+    let low : place.0 < length cs = omega arith in
+    let M : ℕ → Type 0 = λ x. m x ≡ true in
+    let Is : Option ℕ → Type 0 = λ z. IsSomeAnd z (λ x. x ≡ b) in
+    let here : m b ≡ true = subst M (subst Is (run_at cs run.0 run.1 run.2 place.0 low) place.2) (lists.sound place.0 low) in
+    let key = run.3.1 keeps in (
+      here,
+      λ d has other.
+          let w = lists.whole d has in
+          let Has : ℕ → Type 0 = λ x. (j : ℕ × ℕ) × CalledAt g f x j f × (is_lt (by_key j key.0) ≡ false) in
+          let Seen : Option ℕ → Type 0 = λ z. IfSome z Has in
+          let seen = subst Has w.2 (subst Seen (run_at cs run.0 run.1 run.2 w.0 w.1) (key.2 w.0)) in
+          let late : is_lt (by_key (count.ones d, d) (count.ones b, b)) ≡ false =
+          ap (λ j. is_lt (by_key j (count.ones b, b))) (sym (tells d seen.0 seen.1)) ∙ ap (λ k. is_lt (by_key seen.0 k)) (sym (tells b key.0 key.1)) ∙ seen.2 in
+          ⊎_elim
+          (λ before. before)
+          (λ before. absurd (not_from_Decides (is_lt (by_key (count.ones d, d) (count.ones b, b))) (before_decided d b (small d has) (small b here)) late before))
+          (before_orders.either b d (λ same. other (sym same))),
+    )

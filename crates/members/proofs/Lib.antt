@@ -1,6 +1,6 @@
 pub mod Bits
 pub mod Counting
 pub mod Firsts
+pub mod Listing
 pub mod Minima
 pub mod Ordering
-pub mod Walking

@@ -1,10 +1,16 @@
 -- Members that include no other member. Assumes nothing.
-use Rattle.std.proofs.Common.{◌≡◌, ℕ, zero, suc, ◌*◌, ◌^◌, ◌<◌, Bool, true, Some, None, refl, ap, inl, inr, ⊎_elim, arith}
-use Rattle.std.proofs.lemmas.Bool.{cases_lt, cases_order}
+use Rattle.std.proofs.Common.{◌≡◌, ℕ, zero, suc, ◌*◌, ◌^◌, ◌<◌, ◌≤◌, Bool, true, false, Decides, List, length, nat_lt, slice_index, Some, None, sym, ◌∙◌, subst, refl, ap, inl, inr, ⊎_elim, arith}
+use Rattle.std.proofs.lemmas.Bool.{both_ways, cases_lt, cases_order, ltb-true, ltb-false}
+use Rattle.std.proofs.lemmas.List.{get_or-take}
+use Rattle.std.proofs.lemmas.List.Folds.{length-prefix_len}
+use Rattle.std.proofs.lemmas.List.Sums.{prefix_len-le-length, prefix_len_passes, prefix_len_stops}
+use Rattle.std.specs.Bool.{MatchBool}
+use Rattle.std.specs.List.{AllWithin, HoldsAt, prefix_len, take_while}
 use Rattle.logic.specs.Codes.{Includes}
 use Rattle.logic.proofs.Inclusion.{includes_le, includes_trans}
 use Rattle.logic.proofs.Minimal.{some_below, includes_decided}
 use Rattle.logic.proofs.Settling.{Decided, same_decided}
+use Rattle.members.specs.Numbers.{Lists}
 use Rattle.members.specs.Minimal.{IncludesNoOther, Minimal, LeastMinimalUnique, MinimalReached}
 
 module _ (actions variables : ℕ) (m : ℕ → Bool) (coded : (c : ℕ) → m c ≡ true → c < 2 ^ (actions * variables)) where
@@ -15,6 +21,50 @@ module _ (actions variables : ℕ) (m : ℕ → Bool) (coded : (c : ℕ) → m c
       (λ lt. before d lt e h)
       (λ ge. let le = includes_le actions variables c d (coded d e) h in omega arith)
       (cases_lt d c)
+
+  -- of the listed members those below c stand first
+  lower_first : (c : ℕ) (cs : List ℕ) → Lists m cs → (k : ℕ) → k < length cs → slice_index cs k < c → k < prefix_len (λ d. nat_lt d c) cs
+  lower_first c cs lists k low below =
+      ⊎_elim
+      (λ lt. lt)
+      (λ ge.
+      let n = prefix_len (λ d. nat_lt d c) cs in
+      let stop : n < length cs = omega arith in
+      let high : c ≤ slice_index cs n = ltb-false (slice_index cs n) c (prefix_len_stops (λ d. nat_lt d c) cs 0 stop) in
+      ⊎_elim
+      (λ before. let up = lists.ascending n k before low in absurd (omega arith))
+      (λ after. let same : n ≡ k = omega arith in let here = ap (slice_index cs) same in absurd (omega arith))
+      (cases_lt n k))
+      (cases_lt k (prefix_len (λ d. nat_lt d c) cs))
+
+  -- so it is enough to look at those
+  pub no_other_listed : (c : ℕ) (cs : List ℕ) → Lists m cs → (r : Bool)
+      → MatchBool r (AllWithin (λ d. d < 2 ^ (actions * variables) → Includes actions variables c d → ⊥) (take_while (λ d. nat_lt d c) cs) 0 (length (take_while (λ d. nat_lt d c) cs)))
+      ((k : ℕ) × (k < length (take_while (λ d. nat_lt d c) cs)) × HoldsAt (λ d. d < 2 ^ (actions * variables) → Includes actions variables c d) (take_while (λ d. nat_lt d c) cs) k)
+      → Decides r (IncludesNoOther actions variables m c)
+  no_other_listed c cs lists true none = (
+    λ _.
+        no_other_below c (λ d lt e h.
+        let w = lists.whole d e in
+        let first = lower_first c cs lists w.0 w.1 (let same = w.2 in omega arith) in
+        let here : slice_index (take_while (λ d. nat_lt d c) cs) w.0 ≡ d = get_or-take (prefix_len (λ d. nat_lt d c) cs) cs w.0 0 first ∙ w.2 in
+        let P : ℕ → Type 0 = λ x. x < 2 ^ (actions * variables) → Includes actions variables c x → ⊥ in
+        absurd (subst P here (none w.0 0 (omega arith) (rw (length-prefix_len (λ d. nat_lt d c) cs) first)) (coded d e) h)),
+    λ _. refl,
+  )
+  no_other_listed c cs lists false some =
+      let n = prefix_len (λ d. nat_lt d c) cs in
+      let k = some.0 in
+      let first : k < n = rw (sym (length-prefix_len (λ d. nat_lt d c) cs)) some.1 in
+      let few = prefix_len-le-length (λ d. nat_lt d c) cs in
+      let d = slice_index cs k in
+      let low : d < c = ltb-true d c (prefix_len_passes (λ d. nat_lt d c) cs k 0 first) in
+      let here : m d ≡ true = lists.sound k (omega arith) in
+      let P : ℕ → Type 0 = λ x. x < 2 ^ (actions * variables) → Includes actions variables c x in
+      let has = subst P (get_or-take n cs k 0 first) (some.2 0) (coded d here) in (
+        λ e. absurd (both_ways false refl e),
+        λ h. let same = h d here has in absurd (omega arith),
+      )
 
   -- a member that c includes
   abbrev Under : ℕ → ℕ → Type 0

@@ -1,3 +1,4 @@
+pub mod Listed
 pub mod Minimal
 pub mod Numbers
 pub mod Order

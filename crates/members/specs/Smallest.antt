@@ -2,10 +2,9 @@
 --
 --   Smallest           o is the member of m that comes before every other member, or none where m has no member
 --   SmallestUnique     there is one such o
---   Earlier            r is the first of o, where there is one, and c
 --
 -- Assumes nothing.
-use Rattle.std.specs.Prelude.{◌≡◌, ℕ, Bool, true, false, ◌⊎◌, Some, None, Option, ◌≢◌}
+use Rattle.std.specs.Prelude.{◌≡◌, ℕ, Bool, true, false, Some, None, Option, ◌≢◌}
 use Rattle.members.specs.Order.{Before}
 
 abbrev pub Smallest : (ℕ → Bool) → Option ℕ → Type 0
@@ -14,7 +13,3 @@ Smallest m (Some c) = (m c ≡ true) × ((d : ℕ) → m d ≡ true → (d ≢ c
 
 abbrev pub SmallestUnique : Type 0
 SmallestUnique = (m : ℕ → Bool) (o p : Option ℕ) → Smallest m o → Smallest m p → o ≡ p
-
-abbrev pub Earlier : Option ℕ → ℕ → ℕ → Type 0
-Earlier None c r = r ≡ c
-Earlier (Some b) c r = (Before c b × (r ≡ c)) ⊎ ((Before c b → ⊥) × (r ≡ b))

@@ -4,17 +4,12 @@ ghost use Rattle.store.specs.Frames.{frame_codes};
 ghost use Rattle.store.specs.Calls.{one_set, Answers};
 ghost use Rattle.members.specs.Numbers.{number};
 
+use crate::walk::members_of;
 use store::calls::Store;
 use store::fault::Fault;
 
 pub fn count<S: Store>(store: &S, i: usize) -> Result<usize, Fault>
     ensures { Answers result (one_set (S.frame store.now) i) (λ n. n ≡ number (S.sets store.now i) (frame_codes (S.frame store.now))) }
 {
-    let mut n = 0;
-    let mut from = 0;
-    while let Some(c) = store.next(i, from)? {
-        n += 1;
-        from = c + 1;
-    }
-    Ok(n)
+    Ok(members_of(store, i)?.count())
 }

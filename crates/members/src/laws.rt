@@ -1,4 +1,5 @@
 // Laws of the words that the contracts cite.
+ghost use Rattle.members.specs.Listed.{ListsUnique, ListedLists};
 ghost use Rattle.members.specs.Minimal.{IncludesByBits, LeastMinimalUnique, MinimalReached};
 ghost use Rattle.members.specs.Numbers.{NumberSays};
 ghost use Rattle.members.specs.Order.{BeforeOrders};
@@ -7,6 +8,20 @@ ghost use Rattle.members.specs.Smallest.{SmallestUnique};
 // The number of members is the length of any ascending list of exactly the members, and there is such a list.
 pub fn number_is_length_of_list() -> u8
     ensures { NumberSays }
+{
+    0
+}
+
+// There is one ascending list of exactly the members from a code on.
+pub fn list_of_members_is_unique() -> u8
+    ensures { ListsUnique }
+{
+    0
+}
+
+// It is the list that `listed` makes.
+pub fn listed_is_list_of_members() -> u8
+    ensures { ListedLists }
 {
     0
 }

@@ -7,3 +7,4 @@ pub mod laws;
 pub mod minimal;
 pub mod order;
 pub mod smallest;
+pub mod walk;

@@ -4,18 +4,17 @@ ghost use Rattle.store.specs.Calls.{one_set, set_and_start, Answers};
 ghost use Rattle.members.specs.Minimal.{IncludesNoOther, LeastMinimal};
 
 use crate::inclusion::includes;
+use crate::walk::{members_from, members_of};
 use store::calls::Store;
 use store::fault::Fault;
 
 pub fn least<S: Store>(store: &S, i: usize, from: usize) -> Result<Option<usize>, Fault>
     ensures { Answers result (set_and_start (S.frame store.now) i from) (LeastMinimal (S.frame store.now).actions (S.frame store.now).variables (S.sets store.now i) from) }
 {
-    let mut at = from;
-    while let Some(c) = store.next(i, at)? {
+    for c in members_from(store, i, from)? {
         if includes_no_other(store, i, c)? {
             return Ok(Some(c));
         }
-        at = c + 1;
     }
     Ok(None)
 }
@@ -24,15 +23,9 @@ pub fn least<S: Store>(store: &S, i: usize, from: usize) -> Result<Option<usize>
 fn includes_no_other<S: Store>(store: &S, i: usize, c: usize) -> Result<bool, Fault>
     ensures { Answers result (one_set (S.frame store.now) i) (λ b. Decides b (IncludesNoOther (S.frame store.now).actions (S.frame store.now).variables (S.sets store.now i) c)) }
 {
-    let mut from = 0;
-    while let Some(d) = store.next(i, from)? {
-        if d >= c {
-            return Ok(true);
-        }
-        if includes(c, d) {
-            return Ok(false);
-        }
-        from = d + 1;
-    }
-    Ok(true)
+    Ok(
+        members_of(store, i)?
+            .take_while(|d| *d < c)
+            .all(|d| !includes(c, d)),
+    )
 }

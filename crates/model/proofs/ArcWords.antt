@@ -1,30 +1,35 @@
 -- The words of one arc, and whether an arc stands in a list.
-use Rattle.std.proofs.Common.{◌≡◌, ℕ, ◌<◌, ◌≤◌, Bool, true, false, List, [], ◌∷◌, ◌++◌, map, length, get_or, Some, Ok, Err, Decides, sym, refl, ap, ◌∙◌, subst, arith}
-use Rattle.std.specs.List.{ContainsAt as Has}
-use Rattle.std.proofs.lemmas.List.{get_or_default, get_or-map, length-map}
-use Rattle.std.proofs.lemmas.Bool.{false≢true}
-use Rattle.std.proofs.lemmas.Bool.Decides.{Decides-like}
+use Rattle.std.proofs.Common.{◌≡◌, ℕ, ◌<◌, Bool, ◌&&◌, eqb, List, [], ◌∷◌, ◌++◌, map, length, Some, Ok, Err, Decides, sym, refl, ap, ◌∙◌, subst, arith}
+use Rattle.std.specs.Option.{ok_or}
+use Rattle.std.specs.List.{ContainsAt as Has, IsAnyAnswer}
+use Rattle.std.proofs.lemmas.List.{get_or-map, length-map}
+use Rattle.std.proofs.lemmas.Bool.Decides.{Decides-and, Decides-eqb, Decides-like}
+use Rattle.std.proofs.lemmas.List.Elements.{contains_decides}
 use Rattle.logic.specs.Table as logic
 use Rattle.words.specs.declared.Fault.{Fault}
-use Rattle.words.specs.declared.Name.{Name}
+use Rattle.words.specs.declared.Fault.TheVariants.{NotNamed}
+use Rattle.words.specs.declared.Reader.{Reader}
+use Rattle.words.specs.declared.Word.{Word}
 use Rattle.words.specs.Faults.{number, position}
-use Rattle.words.specs.Words.{bytes_of, lookup, name_bytes}
-use Rattle.words.specs.Walks.{Walks, Refused}
-use Rattle.words.proofs.Walks.{walks_then, refused_then}
-use Rattle.model.specs.declared.named.Named.{Named}
+use Rattle.words.specs.Words.{lookup}
+use Rattle.words.specs.Walks.{Walks, Leaves, Found}
+use Rattle.words.specs.Readers.{LooksUp}
+use Rattle.words.proofs.Readers.{no_word, word_goes, word_stops, walks_on, leaves_on, ok_or_some, ok_or_none}
 use Rattle.model.specs.declared.table.Arc.{Arc}
 use Rattle.model.specs.Content.{Content}
 use Rattle.model.specs.Rules.{arc_from, arc_action, arc_to, due_arcs, at, with_arcs, model_rules}
-use Rattle.model.specs.Values.{blank_arc, arc_of, single}
-use Rattle.model.specs.Readings.{LooksUp}
-use Rattle.model.proofs.Looks.{unlooked}
-use Rattle.model.proofs.Steps.{arc_from_goes, arc_from_stops, arc_action_goes, arc_action_stops, arc_to_goes, arc_to_stops, arc_again}
+use Rattle.model.specs.Values.{arc_of, single}
+use Rattle.model.proofs.Looks.{arc_from_reads, arc_action_reads}
+use Rattle.model.proofs.Steps.{arc_to_fits, arc_to_met, arc_again}
 
-pub found_at : {X : Type 0} (xs : List X) (k : ℕ) (d x : X) → k < length xs → get_or xs k d ≡ x → Decides true (Has xs x)
-found_at xs k d x lt is = (λ _. (k, lt, λ e. get_or_default xs k e d lt ∙ is), λ _. refl)
+-- arcs are the same if their parts are
+abbrev same_arc : Arc → Arc → Bool
+same_arc x y = eqb x.from y.from && (eqb x.action y.action && eqb x.to y.to)
 
-pub found_nowhere : (xs : List Arc) (n : ℕ) (x : Arc) → length xs ≤ n → ((k : ℕ) → k < n → get_or xs k blank_arc ≡ x → ⊥) → Decides false (Has xs x)
-found_nowhere xs n x all none = (λ h. absurd (false≢true h), λ h. absurd (none h.0 (omega (arith, h.1, all)) (h.2 blank_arc)))
+same_arc_decides : (x y : Arc) → Decides (same_arc x y) (x ≡ y)
+same_arc_decides x y =
+    Decides-like (same_arc x y) (λ h. λ i. record { from = h.0 i; action = h.1.0 i; to = h.1.1 i }) (λ h. (ap (λ z. z.from) h, (ap (λ z. z.action) h, ap (λ z. z.to) h)))
+    (Decides-and (eqb x.from y.from) (eqb x.action y.action && eqb x.to y.to) (Decides-eqb x.from y.from) (Decides-and (eqb x.action y.action) (eqb x.to y.to) (Decides-eqb x.action y.action) (Decides-eqb x.to y.to)))
 
 -- an arc that is kept stands in its list just where the arc that is meant does
 has_single : (xs : List Arc) (x : Arc) → Has xs x → Has (map single xs) (single x)
@@ -39,51 +44,47 @@ has_kept xs x h =
     let lt : h.0 < length xs = omega (arith, h.1, length-map xs single) in
     (h.0, lt, λ d. ap arc_of (sym (get_or-map single xs h.0 d (single d) lt) ∙ h.2 (single d)))
 
-pub single_decides : (r : Bool) (xs : List Arc) (x : Arc) (es : List logic.Arc) → es ≡ map single xs → Decides r (Has xs x) → Decides r (Has es (single x))
-single_decides r xs x es same h =
-    subst (λ ys. Decides r (Has ys (single x))) (sym same) (Decides-like r (has_single xs x) (has_kept xs x) h)
+pub arc_decides : (r : Bool) (xs : List Arc) (x : Arc) (es : List logic.Arc) → es ≡ map single xs → IsAnyAnswer (λ y b. same_arc y x ≡ b) xs r → Decides r (Has es (single x))
+arc_decides r xs x es same h =
+    subst (λ ys. Decides r (Has ys (single x))) (sym same) (Decides-like r (has_single xs x) (has_kept xs x) (contains_decides same_arc same_arc_decides xs x r h))
 
-module _ (text : List ℕ) (from : ℕ) (c : Content) (m : ℕ) (states actions : List Name) (ss : c.states ≡ map name_bytes states) (acts : c.actions ≡ map name_bytes actions) where
-  pub arc_from_unnamed : (f : Fault) → LooksUp text from (map name_bytes states) (Err f) → Refused model_rules text (at (arc_from m) c) from (number f) (position f)
-  arc_from_unnamed f h =
-      unlooked text from c (arc_from m) (map name_bytes states) f refl
-      (λ start end word clean none. arc_from_stops text from c start end word clean m (ap (lookup (bytes_of text start end)) ss ∙ none)) h
+module _ (c : Content) (m : ℕ) (states actions : List (List ℕ)) (ss : c.states ≡ states) (acts : c.actions ≡ actions) (r one : Reader) (s : ℕ) (same : one.text ≡ r.text) (first : LooksUp r states (Ok s) one) where
+  one_walk : Walks model_rules r.text.now (at (arc_from m) c) r.at (at (arc_action m s) c) one.at
+  one_walk = arc_from_reads c r one states (Ok s) first m ss
 
-  module _ (x : Named) (hx : LooksUp text from (map name_bytes states) (Ok x)) where
-    one : Walks model_rules text (at (arc_from m) c) from (at (arc_action m x.number) c) x.end
-    one = arc_from_goes text from c x.start x.end hx.0 hx.1 m x.number (ap (lookup (bytes_of text x.start x.end)) ss ∙ hx.2)
+  pub action_unnamed : (f : Fault) (after : Reader) → LooksUp one actions (Err f) after → Leaves model_rules r.text.now (at (arc_from m) c) r.at (number f) (position f) after.at
+  action_unnamed f after h =
+      leaves_on model_rules (at (arc_from m) c) r (at (arc_action m s) c) one same one_walk (number f) (position f) after (arc_action_reads c one after actions (Err f) h m s acts)
 
-    pub arc_action_unnamed : (f : Fault) → LooksUp text x.end (map name_bytes actions) (Err f) → Refused model_rules text (at (arc_from m) c) from (number f) (position f)
-    arc_action_unnamed f h =
-        refused_then model_rules text _ from _ x.end (number f) (position f) one
-        (unlooked text x.end c (arc_action m x.number) (map name_bytes actions) f refl
-        (λ start end word clean none. arc_action_stops text x.end c start end word clean m x.number (ap (lookup (bytes_of text start end)) acts ∙ none)) h)
+  module _ (two : Reader) (a : ℕ) (same' : two.text ≡ one.text) (second : LooksUp one actions (Ok a) two) (after : Reader) where
+    two_walk : Walks model_rules r.text.now (at (arc_from m) c) r.at (at (arc_to m s a) c) two.at
+    two_walk =
+        walks_on model_rules (at (arc_from m) c) r (at (arc_action m s) c) one same one_walk (at (arc_to m s a) c) two (arc_action_reads c one two actions (Ok a) second m s acts)
 
-    module _ (y : Named) (hy : LooksUp text x.end (map name_bytes actions) (Ok y)) where
-      two : Walks model_rules text (at (arc_from m) c) from (at (arc_to m x.number y.number) c) y.end
-      two =
-          walks_then model_rules text _ from _ x.end _ y.end one
-          (arc_action_goes text x.end c y.start y.end hy.0 hy.1 m x.number y.number (ap (lookup (bytes_of text y.start y.end)) acts ∙ hy.2))
+    on : (n place : ℕ) → Leaves model_rules two.text.now (at (arc_to m s a) c) two.at n place after.at → Leaves model_rules r.text.now (at (arc_from m) c) r.at n place after.at
+    on n place h = leaves_on model_rules (at (arc_from m) c) r (at (arc_to m s a) c) two (same' ∙ same) two_walk n place after h
 
-      pub arc_to_unnamed : (f : Fault) → LooksUp text y.end (map name_bytes states) (Err f) → Refused model_rules text (at (arc_from m) c) from (number f) (position f)
-      arc_to_unnamed f h =
-          refused_then model_rules text _ from _ y.end (number f) (position f) two
-          (unlooked text y.end c (arc_to m x.number y.number) (map name_bytes states) f refl
-          (λ start end word clean none. arc_to_stops text y.end c start end word clean m x.number y.number (ap (lookup (bytes_of text start end)) ss ∙ none)) h)
+    pub no_target : (f : Fault) → Found two (Err f) after → Leaves model_rules r.text.now (at (arc_from m) c) r.at (number f) (position f) after.at
+    no_target f h = on (number f) (position f) (no_word model_rules (at (arc_to m s a) c) two after refl f h)
 
-      module _ (z : Named) (hz : LooksUp text y.end (map name_bytes states) (Ok z)) where
+    module _ (w : Word) (found : Found two (Ok w) after) where
+      pub target_unnamed : (f : Fault) → Err f ≡ ok_or (lookup w.bytes.now states) (NotNamed w.start) → Leaves model_rules r.text.now (at (arc_from m) c) r.at (number f) (position f) after.at
+      target_unnamed f h =
+          let none = ok_or_none (lookup w.bytes.now states) (NotNamed w.start) f h in
+          subst (λ g. Leaves model_rules r.text.now (at (arc_from m) c) r.at (number g) (position g) after.at) (sym none.1)
+          (on 7 w.start (word_stops model_rules (at (arc_to m s a) c) two after refl w 7 found (arc_to_met c w.bytes.now m s a (ap (lookup w.bytes.now) ss ∙ none.0))))
+
+      module _ (t : ℕ) (h : Ok t ≡ ok_or (lookup w.bytes.now states) (NotNamed w.start)) where
         abbrev the_arc : Arc
-        the_arc = record { from = x.number; action = y.number; to = z.number }
+        the_arc = record { from = s; action = a; to = t }
 
-        named : lookup (bytes_of text z.start z.end) c.states ≡ Some z.number
-        named = ap (lookup (bytes_of text z.start z.end)) ss ∙ hz.2
+        named : lookup w.bytes.now c.states ≡ Some t
+        named = ap (lookup w.bytes.now) ss ∙ ok_or_some (lookup w.bytes.now states) (NotNamed w.start) t h
 
-        pub arc_taken : Has c.arcs (single the_arc) → Refused model_rules text (at (arc_from m) c) from 8 z.start
-        arc_taken has =
-            refused_then model_rules text _ from _ y.end 8 z.start two
-            (arc_again text y.end c z.start z.end hz.0 hz.1 m x.number y.number z.number named has)
+        pub arc_taken : Has c.arcs (single the_arc) → Leaves model_rules r.text.now (at (arc_from m) c) r.at 8 w.start after.at
+        arc_taken has = on 8 w.start (word_stops model_rules (at (arc_to m s a) c) two after refl w 8 found (arc_again c w.bytes.now m s a t named has))
 
-        pub arc_read : (Has c.arcs (single the_arc) → ⊥) → Walks model_rules text (at (arc_from m) c) from (at (due_arcs m) (with_arcs c (c.arcs ++ single the_arc ∷ []))) z.end
+        pub arc_read : (Has c.arcs (single the_arc) → ⊥) → Walks model_rules r.text.now (at (arc_from m) c) r.at (at (due_arcs m) (with_arcs c (c.arcs ++ single the_arc ∷ []))) after.at
         arc_read free =
-            walks_then model_rules text _ from _ y.end _ z.end two
-            (arc_to_goes text y.end c z.start z.end hz.0 hz.1 m x.number y.number z.number named free)
+            let fit = arc_to_fits c w.bytes.now m s a t named free in
+            walks_on model_rules (at (arc_from m) c) r (at (arc_to m s a) c) two (same' ∙ same) two_walk _ after (word_goes model_rules (at (arc_to m s a) c) two after refl w _ found fit.0 fit.1)

@@ -1,7 +1,6 @@
 -- Cells behind a list: blank ones up to a fixed number.
-use Rattle.std.proofs.Common.{◌≡◌, ℕ, suc, ◌+◌, ◌-◌, ◌<◌, ◌≤◌, List, [], ◌∷◌, ◌++◌, map, length, take, set, replicate, sym, refl, ap, ◌∙◌, arith}
-use lib.Seq.{take-append-add}
-use Rattle.std.proofs.lemmas.List.{append_assoc, length-append, length-replicate, length-map, length-take, length_push, set-append_right, take-replicate, take_at}
+use Rattle.std.proofs.Common.{◌≡◌, ℕ, suc, ◌-◌, ◌<◌, ◌≤◌, List, [], ◌∷◌, ◌++◌, map, length, take, set, replicate, sym, refl, ap, ◌∙◌, arith}
+use Rattle.std.proofs.lemmas.List.{append_assoc, length-append, length-replicate, length-map, length-take, length_push, set-append_right, take_at}
 use Rattle.model.specs.Values.{padded}
 
 -- a cell that is written behind the others takes the place of a blank one
@@ -17,14 +16,6 @@ padded_more n blank xs x lt =
 length_padded : {X : Type 0} (n : ℕ) (blank : X) (xs : List X) → length xs ≤ n → length (padded n blank xs) ≡ n
 length_padded n blank xs few =
     length-append xs (replicate (n - length xs) blank) ∙ omega (arith, length-replicate (n - length xs) blank, few)
-
--- the front of a longer list of cells is the shorter list of cells
-pub padded_front : {X : Type 0} (n m : ℕ) (blank : X) (xs : List X) → length xs ≤ n → n ≤ m → take n (padded m blank xs) ≡ padded n blank xs
-padded_front n m blank xs few le =
-    let long : n ≡ length xs + (n - length xs) = omega arith in
-    ap (λ k. take k (padded m blank xs)) long
-    ∙ take-append-add xs (replicate (m - length xs) blank) (n - length xs)
-    ∙ ap (λ ys. xs ++ ys) (take-replicate (n - length xs) (m - length xs) blank (omega arith))
 
 -- a list of cells that keeps the first n of its own has n of them
 pub kept_count : {X Y : Type 0} (size n : ℕ) (blank : X) (f : Y → X) (g : X → Y) (held : List X) → held ≡ padded size blank (map f (map g (take n held))) → n ≤ size → n ≡ length (map g (take n held))

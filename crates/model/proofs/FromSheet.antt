@@ -1,5 +1,5 @@
 -- The words of an admissible content are walked along: each is due where it stands, and fits.
-use Rattle.std.proofs.Common.{◌≡◌, ℕ, ◌<◌, true, List, [], ◌∷◌, ◌++◌, map, length, get_or, Some, sym, ap, ◌∙◌, subst, ⊎_elim, append_assoc}
+use Rattle.std.proofs.Common.{◌≡◌, ℕ, ◌<◌, true, List, [], ◌∷◌, ◌++◌, map, length, get_or, Some, sym, ap, ◌∙◌, subst, ⊎_elim, append_assoc, refl}
 use Rattle.std.specs.List.{ContainsAt as Has, flat_map, AllByRecursion}
 use Rattle.std.proofs.lemmas.List.{append-nil}
 use Rattle.logic.specs.Table.{Arc, Fits}
@@ -12,15 +12,14 @@ use Rattle.model.specs.declared.names.Names.TheVariants.{States, Actions, Proper
 use Rattle.model.specs.Content.{Content, Label, Section, names, labels, arcs, names_of, Kept, Taken}
 use Rattle.model.specs.Rules.{at, count, name, label_state, label_property, arc_from, arc_action, arc_to, nothing, behind, due_items, due_names, due_labels, due_arcs, with_names, with_labels, with_arcs, no_content, model_rules, model_start}
 use Rattle.model.specs.Grammar.{number, word, Next, Spells, names_section, label_items, arc_items, Once, Given, ModelSheet}
-use Rattle.model.proofs.NameLoop.{names_given, names_again}
 use Rattle.model.proofs.Numbers.{lookup_given}
 use Rattle.model.proofs.Onces.{once_new}
 use Rattle.model.proofs.Spelling.{spells_split}
-use Rattle.model.proofs.Steps.{count_goes, name_goes, label_state_goes, label_property_goes, arc_from_goes, arc_action_goes, arc_to_goes}
+use Rattle.model.proofs.Steps.{names_given, names_again, goes, count_fits, name_fits, label_state_fits, label_property_fits, arc_from_fits, arc_action_fits, arc_to_fits}
 
 module _ (text : List ℕ) where
   count_next : (c : Content) (p : ℕ) (k : Section) (n q : ℕ) → Next text p (number k n) q → Walks model_rules text (at (count k) c) p (at (due_items k n) c) q
-  count_next c p k n q x = count_goes text p c x.start q x.stands x.clean k n x.says
+  count_next c p k n q x = goes text p c x.start q x.stands x.clean (count k) _ refl (count_fits c (bytes_of text x.start q) k n x.says)
 
   -- a word that says a name names its number
   looked : (p : ℕ) (given : List (List ℕ)) (i q : ℕ) → Once given → i < length given → (x : Next text p (word (get_or given i [])) q) → lookup (bytes_of text x.start q) given ≡ Some i
@@ -29,7 +28,7 @@ module _ (text : List ℕ) where
   name_next : (c : Content) (k : Names) (m p : ℕ) (w : List ℕ) (q : ℕ) → Next text p (word w) q → named Lower w ≡ true → (Taken c k w → ⊥) → Walks model_rules text (at (name k m) c) p (at (due_names k m) (with_names k c (names_of c k ++ w ∷ []))) q
   name_next c k m p w q x =
       subst (λ v. named Lower v ≡ true → (Taken c k v → ⊥) → Walks model_rules text (at (name k m) c) p (at (due_names k m) (with_names k c (names_of c k ++ v ∷ []))) q) x.says
-      (λ plain free. name_goes text p c x.start q x.stands x.clean k m plain free)
+      (λ plain free. goes text p c x.start q x.stands x.clean (name k m) _ refl (name_fits c (bytes_of text x.start q) k m plain free))
 
   names_walk : (k : Names) (c : Content) (us ws : List (List ℕ)) (p q : ℕ) → Spells text p (map word ws) q → AllByRecursion (λ w. named Lower w ≡ true) ws → AllByRecursion (λ w. Kept k w → ⊥) ws → Once (us ++ ws) → Walks model_rules text (at (due_names k (length ws)) (with_names k c us)) p (at (count (behind k)) (with_names k c (us ++ ws))) q
   names_walk k c us [] p q h _ _ _ =
@@ -59,8 +58,8 @@ module _ (text : List ℕ) where
         let n = length ls in
         let x = h.1 in
         let y = h.2.1 in
-        let one = label_state_goes text p d x.start h.0 x.stands x.clean n l.state (looked p c.states l.state h.0 once_states inside.0.0 x) in
-        let two = label_property_goes text h.0 d y.start h.2.0 y.stands y.clean n l.state l.property (looked h.0 c.properties l.property h.2.0 once_properties inside.0.1 y) (once_new ms l ls once) in
+        let one = goes text p d x.start h.0 x.stands x.clean (label_state n) (at (label_property n l.state) d) refl (label_state_fits d (bytes_of text x.start h.0) n l.state (looked p c.states l.state h.0 once_states inside.0.0 x)) in
+        let two = goes text h.0 d y.start h.2.0 y.stands y.clean (label_property n l.state) (at (due_labels n) (with_labels c (ms ++ l ∷ []))) refl (label_property_fits d (bytes_of text y.start h.2.0) n l.state l.property (looked h.0 c.properties l.property h.2.0 once_properties inside.0.1 y) (once_new ms l ls once)) in
         let rest = labels_walk once_properties (ms ++ l ∷ []) ls h.2.0 q h.2.2 inside.1 (subst Once (sym (append_assoc ms (l ∷ []) ls)) once) in
         walks_then model_rules text (at (label_state n) d) p (at (label_property n l.state) d) h.0 (at (count arcs) (with_labels c (ms ++ l ∷ ls))) q one
         (walks_then model_rules text (at (label_property n l.state) d) h.0 (at (due_labels n) (with_labels c (ms ++ l ∷ []))) h.2.0 (at (count arcs) (with_labels c (ms ++ l ∷ ls))) q two
@@ -77,9 +76,9 @@ module _ (text : List ℕ) where
         let y = h.2.1 in
         let z = h.2.2.1 in
         let fits = inside.0 in
-        let one = arc_from_goes text p d x.start h.0 x.stands x.clean n e.from (looked p c.states e.from h.0 once_states fits.from_inside x) in
-        let two = arc_action_goes text h.0 d y.start h.2.0 y.stands y.clean n e.from e.action (looked h.0 c.actions e.action h.2.0 once_actions fits.action_inside y) in
-        let three = arc_to_goes text h.2.0 d z.start h.2.2.0 z.stands z.clean n e.from e.action e.to (looked h.2.0 c.states e.to h.2.2.0 once_states fits.to_inside z) (once_new ds e es once) in
+        let one = goes text p d x.start h.0 x.stands x.clean (arc_from n) (at (arc_action n e.from) d) refl (arc_from_fits d (bytes_of text x.start h.0) n e.from (looked p c.states e.from h.0 once_states fits.from_inside x)) in
+        let two = goes text h.0 d y.start h.2.0 y.stands y.clean (arc_action n e.from) (at (arc_to n e.from e.action) d) refl (arc_action_fits d (bytes_of text y.start h.2.0) n e.from e.action (looked h.0 c.actions e.action h.2.0 once_actions fits.action_inside y)) in
+        let three = goes text h.2.0 d z.start h.2.2.0 z.stands z.clean (arc_to n e.from e.action) (at (due_arcs n) (with_arcs c (ds ++ e ∷ []))) refl (arc_to_fits d (bytes_of text z.start h.2.2.0) n e.from e.action e.to (looked h.2.0 c.states e.to h.2.2.0 once_states fits.to_inside z) (once_new ds e es once)) in
         let rest = arcs_walk once_actions (ds ++ e ∷ []) es h.2.2.0 q h.2.2.2 inside.1 (subst Once (sym (append_assoc ds (e ∷ []) es)) once) in
         walks_then model_rules text (at (arc_from n) d) p (at (arc_action n e.from) d) h.0 (at nothing (with_arcs c (ds ++ e ∷ es))) q one
         (walks_then model_rules text (at (arc_action n e.from) d) h.0 (at (arc_to n e.from e.action) d) h.2.0 (at nothing (with_arcs c (ds ++ e ∷ es))) q two

@@ -1,15 +1,14 @@
-pub mod Lookups
 pub mod Members
 pub mod Steps
 pub mod Cells
-pub mod NameLoop
 pub mod Rows
 pub mod Looks
+pub mod NameWords
+pub mod NameLoop
 pub mod LabelWords
 pub mod LabelLoop
 pub mod ArcWords
 pub mod ArcLoop
-pub mod Wholes
 pub mod Onces
 pub mod Spelling
 pub mod Numbers
@@ -18,3 +17,4 @@ pub mod SoFar
 pub mod ToSheet
 pub mod Sheets
 pub mod GivingBack
+pub mod Wholes

@@ -8,7 +8,7 @@ use Rattle.std.proofs.lemmas.Bool.{cond-true, cond-false, cases_Bool}
 use Rattle.std.specs.List.{ContainsAt as Has}
 use Rattle.words.specs.Words.{lookup}
 use Rattle.model.specs.Grammar.{Once}
-use Rattle.model.proofs.Members.{lookup_cons}
+use Rattle.words.proofs.Lookups.{lookup_cons}
 
 pub lookup_given : (xs : List (List ℕ)) (i : ℕ) → Once xs → i < length xs → lookup (get_or xs i []) xs ≡ Some i
 lookup_given [] i once lt = absurd (omega arith)

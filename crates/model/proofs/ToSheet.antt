@@ -15,7 +15,7 @@ use Rattle.model.specs.declared.names.Names.TheVariants.{States, Actions, Proper
 use Rattle.model.specs.Content.{Content, Label, Section, names, labels, arcs, fewest, most, names_of, Taken}
 use Rattle.model.specs.Rules.{Due, Point, at, count, name, label_state, label_property, arc_from, arc_action, arc_to, nothing, due_items, due_names, due_labels, due_arcs, with_names, with_labels, with_arcs, over, meets, after, no_content, model_rules, model_start}
 use Rattle.model.specs.Grammar.{Item, number, word, Says, Next, Spells, names_section, label_items, arc_items, sheet_items, Given, Within, ModelSheet}
-use Rattle.model.proofs.Members.{lookup_is}
+use Rattle.words.proofs.Lookups.{lookup_is}
 use Rattle.model.proofs.Onces.{once_push, all_right}
 use Rattle.model.proofs.Spelling.{spells_push, spells_says, counted_within}
 use Rattle.model.proofs.SoFar.{part, label_part, arc_part, before, names_part, labels_part, state_word, action_word, so_far, Told, on_option, names_so_far, labels_so_far, arcs_so_far, names_wait, labels_wait, arcs_wait, fresh_names, fresh_tail, before_with, fresh_with, same_given, sound_with, part_more, label_part_more, arc_part_more}

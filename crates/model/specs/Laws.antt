@@ -11,10 +11,10 @@
 --   TablesAreSound   in the table that a value means every arc stays inside
 --
 -- Assumes nothing.
-use Rattle.std.specs.Prelude.{◌≡◌, ℕ, ◌<◌, ◌≤◌, ◌↔◌, List, [], map, length, take, Some, slice_index_or}
+use Rattle.std.specs.Prelude.{◌≡◌, ℕ, ◌<◌, ◌≤◌, ◌↔◌, List, [], length, Some, slice_index_or}
 use Rattle.logic.specs.Table as logic
 use Rattle.words.specs.Faults.{text_limit}
-use Rattle.words.specs.Words.{lookup, name_bytes}
+use Rattle.words.specs.Words.{lookup, listed}
 use Rattle.words.specs.Walks.{Walks, SheetRefused}
 use Rattle.model.specs.declared.names.Names.{Names}
 use Rattle.model.specs.declared.table.Table.{Table}
@@ -53,9 +53,9 @@ Meant c = record {
 }
 
 pub record GivenBack (c : Content) : Type 0 where
-  pub states : map name_bytes (take (model_of c).states.count (model_of c).states.names) ≡ c.states
-  pub actions : map name_bytes (take (model_of c).vocabulary.action_count (model_of c).vocabulary.actions) ≡ c.actions
-  pub properties : map name_bytes (take (model_of c).vocabulary.property_count (model_of c).vocabulary.properties) ≡ c.properties
+  pub states : listed (model_of c).states ≡ c.states
+  pub actions : listed (model_of c).vocabulary.actions ≡ c.actions
+  pub properties : listed (model_of c).vocabulary.properties ≡ c.properties
   pub table : table_of (model_of c).table ≡ Meant c
 
 abbrev pub GivesBack : Type 0

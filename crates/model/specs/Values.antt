@@ -4,7 +4,8 @@
 --   labelled     whether a property labels a state
 --   label_rows   a row of 16 cells for each of 64 states
 --   arc_of       an arc as it is kept;  single  the arc that is meant
---   vocabulary_of, state_names_of, kept_table  the parts of the value that a content is kept as
+--   names_kept   the list that names are kept as: blank behind its count
+--   vocabulary_of, kept_table  the parts of the value that a content is kept as
 --   model_of     the value that a content is kept as: blank behind its counts
 --   inside       whether an arc stays inside a table
 --   table_of     the table that a value means: its numbers, its labels, and those of its arcs that stay inside it
@@ -14,11 +15,11 @@ use Rattle.std.specs.Prelude.{ℕ, ◌-◌, min, Bool, false, ◌&&◌, ◌||◌
 use Rattle.std.specs.List.{range_with_len}
 use Rattle.logic.specs.Table as logic
 use Rattle.words.specs.declared.Name.{Name}
+use Rattle.words.specs.declared.NameList.{NameList}
 use Rattle.words.specs.Words.{name_from}
 use Rattle.model.specs.declared.table.Arc.{Arc}
 use Rattle.model.specs.declared.table.Table.{Table}
 use Rattle.model.specs.declared.vocabulary.Vocabulary.{Vocabulary}
-use Rattle.model.specs.declared.vocabulary.StateNames.{StateNames}
 use Rattle.model.specs.declared.Model.{Model}
 use Rattle.model.specs.Content.{Label, Content}
 
@@ -44,16 +45,11 @@ arc_of e = record { from = e.from; action = e.action; to = e.to }
 abbrev pub single : Arc → logic.Arc
 single e = record { from = e.from; action = e.action; to = e.to }
 
-abbrev pub vocabulary_of : Content → Vocabulary
-vocabulary_of c = record {
-  actions = padded 12 blank_name (map name_from c.actions);
-  action_count = length c.actions;
-  properties = padded 16 blank_name (map name_from c.properties);
-  property_count = length c.properties;
-}
+abbrev pub names_kept : (most : ℕ) → List (List ℕ) → NameList most
+names_kept most ws = record { names = padded most blank_name (map name_from ws); count = length ws }
 
-abbrev pub state_names_of : Content → StateNames
-state_names_of c = record { names = padded 64 blank_name (map name_from c.states); count = length c.states }
+abbrev pub vocabulary_of : Content → Vocabulary
+vocabulary_of c = record { actions = names_kept 12 c.actions; properties = names_kept 16 c.properties }
 
 abbrev pub kept_table : Content → Table
 kept_table c = record {
@@ -66,7 +62,7 @@ kept_table c = record {
 }
 
 abbrev pub model_of : Content → Model
-model_of c = record { vocabulary = vocabulary_of c; states = state_names_of c; table = kept_table c }
+model_of c = record { vocabulary = vocabulary_of c; states = names_kept 64 c.states; table = kept_table c }
 
 -- an arc stays inside a table with so many states and actions
 abbrev pub inside : ℕ → ℕ → logic.Arc → Bool

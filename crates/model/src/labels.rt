@@ -1,5 +1,5 @@
 // The section of labels.
-ghost use Rattle.std.specs.Prelude.{◌≡◌, ℕ, ◌<◌, ◌≤◌, true, [], ◌∷◌, ◌++◌, map, length, IfOk, slice_index_or, slice_set};
+ghost use Rattle.std.specs.Prelude.{◌≡◌, ℕ, ◌<◌, ◌≤◌, [], ◌∷◌, ◌++◌, map, length, IfOk};
 ghost use Rattle.words.specs.Words.{name_bytes};
 ghost use Rattle.words.specs.Walks.{Reads};
 ghost use Rattle.model.specs.Content.{Content};
@@ -7,91 +7,59 @@ ghost use Rattle.model.specs.Rules.{label_state, at, due_labels, with_labels, mo
 ghost use Rattle.model.specs.Values.{label_rows};
 ghost use Rattle.model.specs.Readings.{ReadsLabels};
 
-use crate::count::read_count;
-use crate::named::{Named, read_named};
-use words::{Fault, Name};
+use words::{Fault, Name, Reader};
 
-// A row of cells for each state, and where the text goes on behind the section.
+// A row of cells for each state, and how many labels are marked there.
 #[derive(Clone, Copy)]
 pub struct Labels {
     pub rows: [[bool; 16]; 64],
     pub count: usize,
-    pub end: usize,
 }
 
-// A label, and where the text goes on behind it.
+// A property of a state, both by number.
 #[derive(Clone, Copy)]
-pub struct Labelled {
+pub struct Label {
     pub state: usize,
     pub property: usize,
-    pub end: usize,
 }
 
 pub(crate) fn read_labels(
-    text: &[u8],
-    from: usize,
+    reader: &mut Reader<'_>,
     states: &[Name],
     properties: &[Name],
 ) -> Result<Labels, Fault>
     requires states { length states.now ≤ 64 }
     requires properties { length properties.now ≤ 16 }
-    ensures reads { (c : Content) → c.states ≡ map name_bytes states.now → c.properties ≡ map name_bytes properties.now → ReadsLabels text.now c from result }
-    ensures range { IfOk result (λ x. x.end ≤ length text.now) }
+    ensures reads { (c : Content) → c.states ≡ map name_bytes states.now → c.properties ≡ map name_bytes properties.now → ReadsLabels reader.old c result reader.new }
+    ensures same { reader.new.text ≡ reader.old.text }
 {
-    let head = read_count(text, from, 0, 1024)?;
+    let count = reader.count(0, 1024)?;
     let mut rows = [[false; 16]; 64];
-    let mut end = head.end;
-    let mut left = head.count;
-    while left > 0 {
-        let next = read_label(text, end, states, properties, &rows)?;
-        mark(&mut rows, next.state, next.property);
-        end = next.end;
-        left -= 1;
+    for _ in 0..count {
+        let label = read_label(reader, states, properties, &rows)?;
+        rows[label.state][label.property] = true;
     }
-    Ok(Labels {
-        rows,
-        count: head.count,
-        end,
-    })
-}
-
-fn mark(rows: &mut [[bool; 16]; 64], state: usize, property: usize)
-    requires state { state < 64 }
-    requires property { property < 16 }
-    ensures { rows.new ≡ slice_set rows.old state (slice_set (slice_index_or rows.old state []) property true) }
-{
-    rows[state][property] = true;
+    Ok(Labels { rows, count })
 }
 
 // The next two words, which are to be a label that does not stand in the rows yet.
 fn read_label(
-    text: &[u8],
-    from: usize,
+    reader: &mut Reader<'_>,
     states: &[Name],
     properties: &[Name],
     rows: &[[bool; 16]; 64],
-) -> Result<Labelled, Fault>
+) -> Result<Label, Fault>
     requires states { length states.now ≤ 64 }
     requires properties { length properties.now ≤ 16 }
-    ensures reads { (c : Content) (m : ℕ) → c.states ≡ map name_bytes states.now → c.properties ≡ map name_bytes properties.now → rows.now ≡ label_rows c.labels → Reads model_rules text.now (at (label_state m) c) from result (λ x. at (due_labels m) (with_labels c (c.labels ++ record { state = x.state; property = x.property } ∷ []))) (λ x. x.end) }
-    ensures range { IfOk result (λ x. (x.state < 64) × (x.property < 16) × (x.end ≤ length text.now)) }
+    ensures reads { (c : Content) (m : ℕ) → c.states ≡ map name_bytes states.now → c.properties ≡ map name_bytes properties.now → rows.now ≡ label_rows c.labels → Reads model_rules (at (label_state m) c) reader.old result (λ x. at (due_labels m) (with_labels c (c.labels ++ record { state = x.state; property = x.property } ∷ []))) reader.new }
+    ensures same { reader.new.text ≡ reader.old.text }
+    ensures range { IfOk result (λ x. (x.state < 64) × (x.property < 16)) }
 {
-    let Named {
-        number: state,
-        end: between,
-        ..
-    } = read_named(text, from, states)?;
-    let Named {
-        number: property,
-        start,
-        end,
-    } = read_named(text, between, properties)?;
+    let state = reader.number_in(states)?;
+    let word = reader.word()?;
+    let property = word.number_in(properties)?;
     if rows[state][property] {
-        return Err(Fault::Repeated(start));
+        return Err(Fault::Repeated(word.start));
     }
-    Ok(Labelled {
-        state,
-        property,
-        end,
-    })
+    Ok(Label { state, property })
 }

@@ -7,14 +7,12 @@ ghost use Rattle.model.specs.Rules.{no_content};
 ghost use Rattle.model.specs.Values.{model_of};
 
 use table::Table;
-use vocabulary::{StateNames, Vocabulary};
-use words::Fault;
+use vocabulary::Vocabulary;
+use words::{Fault, Name, NameList, Reader};
 
 mod arcs;
-mod count;
 mod labels;
 pub mod laws;
-mod named;
 mod names;
 mod sections;
 pub mod table;
@@ -26,14 +24,18 @@ const TEXT_LIMIT: usize = 32768;
 #[derive(Clone, Copy)]
 pub struct Model {
     pub vocabulary: Vocabulary,
-    pub states: StateNames,
+    pub states: NameList<64>,
     pub table: Table,
 }
 
 impl Model {
+    // Written out, since the value of a constant names no constant of a generic type.
     pub const BLANK: Model = Model {
         vocabulary: Vocabulary::BLANK,
-        states: StateNames::BLANK,
+        states: NameList {
+            names: [Name::BLANK; 64],
+            count: 0,
+        },
         table: Table::BLANK,
     };
 
@@ -68,9 +70,9 @@ pub fn read_model<'a>(text: &'a [u8], place: &mut Model) -> Result<ModelRead<'a>
     if text.len() > TEXT_LIMIT {
         return Err(Fault::TooLong);
     }
-    let read = sections::read_sections(text)?;
-    *place = sections::built(&read);
-    let end = read.arcs.end;
+    let mut reader = Reader { text, at: 0 };
+    let read = sections::read_sections(&mut reader)?;
+    *place = read.model();
     Ok(ModelRead {
         counts: Counts {
             states: read.states.count,
@@ -79,6 +81,6 @@ pub fn read_model<'a>(text: &'a [u8], place: &mut Model) -> Result<ModelRead<'a>
             labels: read.labels.count,
             arcs: read.arcs.count,
         },
-        rest: &text[end..],
+        rest: reader.rest(),
     })
 }

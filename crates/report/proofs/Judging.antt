@@ -1,10 +1,11 @@
 -- From what was read and evaluated to what the report of a sheet says. Assumes nothing.
-use Rattle.std.proofs.Common.{◌≡◌, ℕ, ◌+◌, ◌-◌, ◌*◌, ◌≤◌, Bool, true, false, cond, List, [], ◌∷◌, map, length, take, drop, IfOk, Some, None, Ok, Err, Option, Result, sym, refl, ap, ◌∙◌, subst, inl, inr, arith}
-use Rattle.std.proofs.lemmas.List.{length-map, length-append, length-replicate, length-drop}
+use Rattle.std.proofs.Common.{◌≡◌, ℕ, ◌+◌, ◌-◌, ◌*◌, ◌≤◌, Bool, true, false, cond, List, [], ◌∷◌, map, length, take, drop, Some, None, Ok, Err, Option, Result, sym, refl, ap, ◌∙◌, subst, arith}
+use Rattle.std.proofs.lemmas.List.{length-map, length-drop}
 use Rattle.std.proofs.lemmas.Bool.Decides.{nat_tests}
 use Rattle.logic.specs.Table.{Table}
-use Rattle.words.specs.Faults.{text_limit}
-use Rattle.words.specs.Words.{WordAt, counted, limited, decimal, name_bytes, name_from}
+use Rattle.words.specs.declared.Fault.{Fault}
+use Rattle.words.specs.Faults.{number, position}
+use Rattle.words.specs.Words.{counted, limited, decimal, name_bytes, name_from}
 use Rattle.words.specs.declared.Letters.TheVariants.{Upper}
 use Rattle.words.proofs.Words.{kept_whole}
 use Rattle.model.specs.declared.Model.{Model}
@@ -26,15 +27,15 @@ use Rattle.store.specs.Frames.{Frame}
 use Rattle.evaluate.specs.declared.fault.EvaluateFault.{EvaluateFault}
 use Rattle.evaluate.specs.declared.fault.EvaluateFault.TheVariants.{Differ, TooFewSets, Store}
 use Rattle.evaluate.specs.Evaluation.{Numbers}
-use Rattle.evaluate.specs.Faults.{evaluation_number}
-use Rattle.report.specs.declared.marks.Mark.{Mark}
-use Rattle.report.specs.declared.sheets.Laid.{Laid}
-use Rattle.report.specs.declared.sheets.Refused.{Refused}
-use Rattle.report.specs.Formulas.{LaysSome, Evaluates, Small}
-use Rattle.report.specs.Laying.{whole_frame, ReadTo, NotRead, SheetLaid}
+use Rattle.report.specs.declared.faults.SheetFault.{SheetFault}
+use Rattle.report.specs.declared.faults.SheetFault.TheVariants.{Reading, Evaluation}
+use Rattle.report.specs.declared.printer.Printer.{Printer}
+use Rattle.report.specs.Formulas.{Evaluates, Small}
+use Rattle.report.specs.Laying.{whole_frame, ReadTo, ReadAt, Refused, SheetLaid}
 use Rattle.report.specs.Lines.{action_names, variable_names}
-use Rattle.report.specs.Reports.{Sheet, Told, SheetStops}
-use Rattle.report.proofs.Moving.{refused_inside, sheet_reaches, next_is}
+use Rattle.report.specs.Printers.{Lays, LaysSome}
+use Rattle.report.specs.Reports.{Sheet, Told}
+use Rattle.report.proofs.Moving.{sheet_reaches, next_is}
 
 limited_high : (low high n : ℕ) (o : Option ℕ) → limited low high o ≡ Some n → n ≤ high
 limited_high low high n None h = let z : ◌≡◌ {A = ℕ} 0 1 = cc in absurd (omega arith)
@@ -63,8 +64,8 @@ record Over : Type 0 where
   actions : List (List ℕ)
   variables : List (List ℕ)
 
-abbrev EvaluatesOver : Over → Mark → List ℕ → Result Mark EvaluateFault → List ℕ → Type 0
-EvaluatesOver o m before r after = Evaluates o.frame o.table o.meaning o.actions o.variables m before r after
+abbrev EvaluatesOver : Over → Printer → Result (Unit {0}) EvaluateFault → Printer → Type 0
+EvaluatesOver o p r q = Evaluates o.frame o.table o.meaning o.actions o.variables p r q
 
 -- a sheet that was read against a model is within the limits
 module _ (m : Model) (v : Formula) (c : model.Content) (a : Admissible c) (keeps : m ≡ model_of c) (text : List ℕ) (d : formula.Content) (end : ℕ) (sheet : FormulaSheet text (given_action_names m.vocabulary) (given_property_names m.vocabulary) d end) (is : v ≡ formula_of (length (given_action_names m.vocabulary)) (length (given_property_names m.vocabulary)) d) where
@@ -74,30 +75,27 @@ module _ (m : Model) (v : Formula) (c : model.Content) (a : Admissible c) (keeps
   props : given_property_names m.vocabulary ≡ c.properties
   props = ap (λ z. given_property_names z.vocabulary) keeps ∙ (gives_back c a).properties
 
-  pub count_is : m.vocabulary.action_count ≡ length c.actions
-  count_is = ap (λ z. z.vocabulary.action_count) keeps
+  pub count_is : m.vocabulary.actions.count ≡ length c.actions
+  count_is = ap (λ z. z.vocabulary.actions.count) keeps
 
-  pub variables_is : v.variables ≡ length d.names
-  variables_is = ap (λ z. z.variables) is
+  pub variables_is : v.variables.count ≡ length d.names
+  variables_is = ap (λ z. z.variables.count) is
 
-  pub variables_few : v.variables ≤ 4
+  pub variables_few : v.variables.count ≤ 4
   variables_few = let few = count_high sheet.count 0 4 (length d.names) sheet.counts in omega (arith, variables_is)
 
-  pub actions_some : 1 ≤ m.vocabulary.action_count
+  pub actions_some : 1 ≤ m.vocabulary.actions.count
   actions_some = omega (arith, count_is, (a.few_names Actions).0)
 
   pub within : Small m v
   within =
       let states : m.table.states ≡ length c.states = ap (λ z. z.table.states) keeps in
-      let long : length v.names ≡ length (map name_from d.names) + (4 - length (map name_from d.names)) =
-      ap (λ z. length z.names) is ∙ length-append (map name_from d.names) _ ∙ ap (λ n. length (map name_from d.names) + n) (length-replicate _ blank_name) in
-      let bits : m.vocabulary.action_count * v.variables ≡ length (given_action_names m.vocabulary) * length d.names =
+      let bits : m.vocabulary.actions.count * v.variables.count ≡ length (given_action_names m.vocabulary) * length d.names =
       λ i. (count_is ∙ ap length (sym acts)) i * variables_is i in
       record {
         some_state = omega (arith, states, (a.few_names States).0);
         states = omega (arith, states, (a.few_names States).1);
         actions = omega (arith, count_is, (a.few_names Actions).1);
-        variables = omega (arith, variables_is, long, length-map d.names name_from);
         bits = omega (arith, bits, sheet.bits);
       }
 
@@ -117,14 +115,14 @@ module _ (m : Model) (v : Formula) (c : model.Content) (a : Admissible c) (keeps
 
   -- What was evaluated is what the sheets say: the value of the model means its content's table, that of the formula its content's
   -- formula, and the names are those of the sheets.
-  pub evaluates_sheet : (size : ℕ) (k : Mark) (before : List ℕ) (r : Result Mark EvaluateFault) (after : List ℕ)
-      → Evaluates (whole_frame size m.vocabulary.action_count v.variables) (table_of m.table) (meaning_of v) (action_names m) (variable_names v) k before r after
-      → Evaluates (whole_frame size (length c.actions) (length d.names)) (Meant c) (record { formula = d.formula; actions = length c.actions; variables = length d.names; properties = length c.properties }) c.actions d.names k before r after
-  evaluates_sheet size k before r after h =
+  pub evaluates_sheet : (size : ℕ) (p : Printer) (r : Result (Unit {0}) EvaluateFault) (q : Printer)
+      → Evaluates (whole_frame size m.vocabulary.actions.count v.variables.count) (table_of m.table) (meaning_of v) (action_names m) (variable_names v) p r q
+      → Evaluates (whole_frame size (length c.actions) (length d.names)) (Meant c) (record { formula = d.formula; actions = length c.actions; variables = length d.names; properties = length c.properties }) c.actions d.names p r q
+  evaluates_sheet size p r q h =
       let table : table_of m.table ≡ Meant c = ap (λ z. table_of z.table) keeps ∙ (gives_back c a).table in
-      let same : ◌≡◌ {A = Over} (record { frame = whole_frame size m.vocabulary.action_count v.variables; table = table_of m.table; meaning = meaning_of v; actions = action_names m; variables = variable_names v }) (record { frame = whole_frame size (length c.actions) (length d.names); table = Meant c; meaning = record { formula = d.formula; actions = length c.actions; variables = length d.names; properties = length c.properties }; actions = c.actions; variables = d.names }) =
+      let same : ◌≡◌ {A = Over} (record { frame = whole_frame size m.vocabulary.actions.count v.variables.count; table = table_of m.table; meaning = meaning_of v; actions = action_names m; variables = variable_names v }) (record { frame = whole_frame size (length c.actions) (length d.names); table = Meant c; meaning = record { formula = d.formula; actions = length c.actions; variables = length d.names; properties = length c.properties }; actions = c.actions; variables = d.names }) =
       λ i. record { frame = whole_frame size (count_is i) (variables_is i); table = table i; meaning = means i; actions = acts i; variables = vars i } in
-      let P : Over → Type 0 = λ o. EvaluatesOver o k before r after in
+      let P : Over → Type 0 = λ o. EvaluatesOver o p r q in
       subst P same h
 
 -- The evaluation never refuses by 20: the table and the store have their actions from the model sheet against which the formula
@@ -133,27 +131,25 @@ numbers_agree : (size : ℕ) (c : model.Content) (d : formula.Content) → Numbe
 numbers_agree size c d = record { table_actions = refl; store_actions = refl; store_variables = refl; table_properties = refl }
 
 -- the evaluation of a sheet, told
-module _ (text : List ℕ) (size : ℕ) (c : model.Content) (from : ℕ) (d : formula.Content) (end next : ℕ) (sheet : FormulaSheet (drop from text) c.actions c.properties d end) (behind : next ≡ from + end) (k : Mark) (before : List ℕ) where
+module _ (text : List ℕ) (size : ℕ) (c : model.Content) (from : ℕ) (d : formula.Content) (end next : ℕ) (sheet : FormulaSheet (drop from text) c.actions c.properties d end) (behind : next ≡ from + end) (p : Printer) where
   stands : Sheet text size c from d next
   stands = record { end = end; stands = sheet; behind = behind }
 
-  abbrev pub Answer : Result Mark EvaluateFault → List ℕ → Type 0
-  Answer r after = Evaluates (whole_frame size (length c.actions) (length d.names)) (Meant c) (record { formula = d.formula; actions = length c.actions; variables = length d.names; properties = length c.properties }) c.actions d.names k before r after
+  abbrev pub Answer : Result (Unit {0}) EvaluateFault → Printer → Type 0
+  Answer r q = Evaluates (whole_frame size (length c.actions) (length d.names)) (Meant c) (record { formula = d.formula; actions = length c.actions; variables = length d.names; properties = length c.properties }) c.actions d.names p r q
 
-  pub told_sheet : (n : Mark) (after : List ℕ) → Answer (Ok n) after → LaysSome (λ bytes. Told text size c from bytes next) k before n after
-  told_sheet n after h = record {
+  pub told_sheet : (q : Printer) → Answer (Ok tt) q → LaysSome (λ bytes. Told text size c from bytes next) p q
+  told_sheet q h = record {
     bytes = h.1.bytes;
     holds = record { content = d; sheet = stands; enough = h.0.1; report = h.1.holds };
     lays = h.1.lays;
   }
 
-  pub refused_sheet : (e : EvaluateFault) (after : List ℕ) (number first word_end : ℕ) → number ≡ evaluation_number e → WordAt text from first word_end → Answer (Err e) after
-      → SheetStops text size c from number first × (after ≡ before)
-  refused_sheet Differ after number first word_end is word h =
-      absurd (h.0 (numbers_agree size c d))
-  refused_sheet TooFewSets after number first word_end is word h =
-      (inr (record { content = d; behind = next; sheet = stands; lacks = h.0.1; number = is; end = word_end; first = word }), h.1)
-  refused_sheet (Store e) after number first word_end is word h = absurd h.0
+  pub refused_sheet : (e : EvaluateFault) (q : Printer) → Answer (Err e) q → Refused text size c from (Evaluation e)
+  refused_sheet Differ q h first word_end word = absurd (h.0 (numbers_agree size c d))
+  refused_sheet TooFewSets q h first word_end word =
+      record { content = d; behind = next; sheet = stands; lacks = h.0.1; number = refl; end = word_end; first = word }
+  refused_sheet (Store e) q h first word_end word = absurd h.0
 
 -- what the reader says of the rest of a text, said of the text
 pub read_to : (text rest text' : List ℕ) (from : ℕ) (v : Vocabulary) (before after : Formula) → text' ≡ drop from text → from ≤ length text → formula.ReadInto text' v before after rest
@@ -177,28 +173,27 @@ read_to text rest text' from v before after is low h =
       },
     )
 
-pub not_read : (text text' : List ℕ) (from : ℕ) (v : Vocabulary) (before after : Formula) (n at number place : ℕ) → text' ≡ drop from text → number ≡ n → place ≡ at
-    → formula.Untouched text' v before after n at → NotRead text from (given_action_names v) (given_property_names v) number (from + place)
-not_read text text' from v before after n at number place is e f h =
+pub not_read : (text text' : List ℕ) (from : ℕ) (v : Vocabulary) (before after : Formula) (n at : ℕ) → text' ≡ drop from text
+    → formula.Untouched text' v before after n at → formula.Refusal (drop from text) (given_action_names v) (given_property_names v) n at
+not_read text text' from v before after n at is h =
     let P : List ℕ → Type 0 = λ t. formula.Refusal t (given_action_names v) (given_property_names v) n at in
-    let Q : ℕ → Type 0 = λ k. formula.Refusal (drop from text) (given_action_names v) (given_property_names v) k at in
-    record { offset = at; refused = subst Q (sym e) (subst P is h.refusal); moved = ap (λ k. from + k) f }
+    subst P is h.refusal
 
-pub offset_low : (text text' : List ℕ) (from : ℕ) (v : Vocabulary) (before after : Formula) (n at : ℕ) → text' ≡ drop from text → length text ≤ text_limit → formula.Untouched text' v before after n at → at ≤ text_limit
-offset_low text text' from v before after n at is short h =
-    refused_inside _ text' _ n at (let long : length text' ≡ length text - from = ap length is ∙ length-drop from text in omega arith) h.refusal
+pub read_err : (text : List ℕ) (from : ℕ) (actions properties : List (List ℕ)) (place : Formula) {r : Result ℕ Fault} (d e : Fault) → r ≡ Err d → d ≡ e
+    → formula.Refusal (drop from text) actions properties (number e) (position e) → ReadAt text from actions properties r place
+read_err text from actions properties place d e is same h =
+    let P : Result ℕ Fault → Type 0 = λ z. ReadAt text from actions properties z place in subst P (sym (is ∙ ap (λ z. Err z) same)) h
 
-pub misread : (text : List ℕ) (size from : ℕ) (m : Model) (c : model.Content) → Admissible c → m ≡ model_of c → (n at : ℕ) → NotRead text from (given_action_names m.vocabulary) (given_property_names m.vocabulary) n at → SheetStops text size c from n at
-misread text size from m c a keeps n at h =
+pub misread : (text : List ℕ) (size from : ℕ) (m : Model) (c : model.Content) → Admissible c → m ≡ model_of c → (e : Fault)
+    → formula.Refusal (drop from text) (given_action_names m.vocabulary) (given_property_names m.vocabulary) (number e) (position e) → Refused text size c from (Reading e)
+misread text size from m c a keeps e h =
     let actions = ap action_names keeps ∙ (gives_back c a).actions in
     let properties = ap (λ z. given_property_names z.vocabulary) keeps ∙ (gives_back c a).properties in
-    let P : List (List ℕ) → Type 0 = λ ws. formula.Refusal (drop from text) ws (given_property_names m.vocabulary) n h.offset in
-    let Q : List (List ℕ) → Type 0 = λ ws. formula.Refusal (drop from text) c.actions ws n h.offset in
-    inl (record { offset = h.offset; refused = subst Q properties (subst P actions h.refused); moved = h.moved })
+    let P : List (List ℕ) → Type 0 = λ ws. formula.Refusal (drop from text) ws (given_property_names m.vocabulary) (number e) (position e) in
+    let Q : List (List ℕ) → Type 0 = λ ws. formula.Refusal (drop from text) c.actions ws (number e) (position e) in
+    record { offset = position e; refused = subst Q properties (subst P actions h); moved = refl }
 
-pub laid_err : (text : List ℕ) (size : ℕ) (c : model.Content) (from : ℕ) (m : Mark) (before : List ℕ) (r : Result Laid Refused) (y : Refused) (after : List ℕ) → r ≡ Err y → SheetStops text size c from y.number y.at → after ≡ before → SheetLaid text size c from m before r after
-laid_err text size c from m before r y after e stops kept =
-    let P : Result Laid Refused → Type 0 = λ z. SheetLaid text size c from m before z after in subst P (sym e) (stops, kept)
-
-pub made_err : {X E : Type 0} (r : Result X E) (P : X → Type 0) (y : E) → r ≡ Err y → IfOk r P
-made_err {X} {E} r P y e = let Q : Result X E → Type 0 = λ z. IfOk z P in subst Q (sym e) tt
+pub laid_err : (text : List ℕ) (size : ℕ) (c : model.Content) (from : ℕ) {p q : Printer} {r : Result ℕ SheetFault} (d e : SheetFault)
+    → r ≡ Err d → d ≡ e → Refused text size c from e → Lays p [] q → SheetLaid text size c from p r q
+laid_err text size c from {p} {q} d e is same h none =
+    let P : Result ℕ SheetFault → Type 0 = λ z. SheetLaid text size c from p z q in subst P (sym (is ∙ ap (λ z. Err z) same)) (h, none)

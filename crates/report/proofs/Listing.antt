@@ -1,23 +1,9 @@
 -- Ascending lists of codes. Assumes nothing.
-use Rattle.std.proofs.Common.{◌≡◌, ℕ, zero, suc, ◌+◌, ◌<◌, ◌≤◌, Bool, true, false, List, [], ◌∷◌, ◌++◌, length, get_or, sym, refl, ap, ◌∙◌, subst, ⊎_elim, add-one, arith}
+use Rattle.std.proofs.Common.{◌≡◌, ℕ, zero, suc, ◌+◌, ◌<◌, ◌≤◌, Bool, true, false, List, [], ◌∷◌, ◌++◌, length, get_or, sym, refl, ap, ◌∙◌, subst, ⊎_elim, arith}
 use Rattle.std.proofs.lemmas.List.{length_push, get_or_append_left, get_or_push}
 use Rattle.std.proofs.lemmas.Bool.{cond-true, cond-false, cases_lt, cases_Bool, both_ways}
 use Rattle.members.specs.Numbers.{number}
 use Rattle.report.specs.Listings.{Names, below}
-
--- between a and b there is no member
-pub below_skip : (m : ℕ → Bool) (a b : ℕ) → a ≤ b → ((d : ℕ) → a ≤ d → d < b → m d ≡ false) → below m b ≡ below m a
-below_skip m a zero h none = let e : zero ≡ a = omega arith in ap (below m) e
-below_skip m a (suc b) h none =
-    ⊎_elim
-    (λ l. let e : suc b ≡ a = omega arith in ap (below m) e)
-    (λ l. cond-false (m b) (below m b ++ b ∷ []) (below m b) (none b l (omega arith)) ∙ below_skip m a b l (λ d p q. none d p (omega arith)))
-    (cases_lt b a)
-
--- from a on, c is the first member
-pub below_step : (m : ℕ → Bool) (a c : ℕ) → a ≤ c → m c ≡ true → ((d : ℕ) → a ≤ d → d < c → m d ≡ false) → below m (c + 1) ≡ below m a ++ c ∷ []
-below_step m a c h here none =
-    rw (add-one c) (cond-true (m c) (below m c ++ c ∷ []) (below m c) here ∙ ap (λ xs. xs ++ c ∷ []) (below_skip m a c h none))
 
 pub length_below : (m : ℕ → Bool) (n : ℕ) → length (below m n) ≡ number m n
 length_below m zero = refl

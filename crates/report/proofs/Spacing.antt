@@ -1,15 +1,13 @@
 -- Words with one space between, one more at a time. Assumes nothing.
-use Rattle.std.proofs.Common.{◌≡◌, ℕ, zero, suc, ◌+◌, ◌*◌, ◌<◌, ◌≤◌, Bool, true, false, eqb, List, [], ◌∷◌, ◌++◌, map, length, get_or, take, codes, sym, refl, ap, ◌∙◌, mul_comm, add-mul, add-one, arith}
-use Rattle.std.proofs.lemmas.Nat.{mul-le}
-use Rattle.std.proofs.lemmas.List.{flat_map_more, append-nil, length-map, length-take-le, nil_from_length}
+use Rattle.std.proofs.Common.{◌≡◌, ℕ, zero, suc, ◌+◌, ◌*◌, ◌<◌, Bool, true, false, eqb, List, [], ◌∷◌, ◌++◌, map, length, get_or, codes, sym, refl, ap, ◌∙◌, add-one, arith}
+use Rattle.std.proofs.lemmas.List.{flat_map_more, append-nil, length-map, nil_from_length}
 use Rattle.std.proofs.lemmas.Bool.{cond-true, cond-false, ne_eqb}
 use Rattle.logic.specs.Codes.{bit, gives}
 use Rattle.words.specs.declared.Name.{Name}
 use Rattle.words.specs.Words.{name_bytes}
-use Rattle.formula.specs.declared.Formula.{Formula}
-use Rattle.report.specs.declared.marks.Mark.{Mark}
-use Rattle.report.specs.Marks.{Lays}
-use Rattle.report.specs.Lines.{spaced, gap, none, passing, braced, given_text, given_texts, line, variable_names}
+use Rattle.report.specs.declared.printer.Printer.{Printer}
+use Rattle.report.specs.Printers.{Lays}
+use Rattle.report.specs.Lines.{spaced, gap, none, passing, braced, given_text, given_texts, line}
 use Rattle.report.proofs.Laying.{lays_then, lays_same}
 
 pub spaced_more : (ws : List (List ℕ)) (w : List ℕ) → spaced ws ++ (gap (none ws) ++ w) ≡ spaced (ws ++ w ∷ [])
@@ -22,12 +20,9 @@ none_push (v ∷ ws) w = refl
 
 -- one more word: the gap, then the word
 pub spaced_lays :
-    (m : Mark) (o : List ℕ) (ws : List (List ℕ)) (n : Mark) (p : List ℕ) (first : Bool) (k : Mark) (q w : List ℕ) (j : Mark) (r : List ℕ)
-    → Lays m o (spaced ws) n p → first ≡ none ws → Lays n p (gap first) k q → Lays k q w j r → Lays m o (spaced (ws ++ w ∷ [])) j r
-spaced_lays m o ws n p first k q w j r front e between word =
-    lays_same m o _ _ j r (spaced_more ws w)
-    (lays_then m o (spaced ws) n p (gap (none ws) ++ w) j r front
-    (lays_then n p (gap (none ws)) k q w j r (lays_same n p _ _ k q (ap gap e) between) word))
+    (ws : List (List ℕ)) (w : List ℕ) {between : List ℕ} {p q r t : Printer}
+    → between ≡ gap (none ws) → Lays p (spaced ws) q → Lays q between r → Lays r w t → Lays p (spaced (ws ++ w ∷ [])) t
+spaced_lays ws w e a b c = lays_same (spaced_more ws w) (lays_then a (lays_then (lays_same e b) c))
 
 pub passing_yes : (test : ℕ → Bool) (names : List (List ℕ)) (n : ℕ) → test n ≡ true → passing test names (n + 1) ≡ passing test names n ++ get_or names n [] ∷ []
 passing_yes test names n h = rw (add-one n) (cond-true (test n) _ _ h)
@@ -43,11 +38,6 @@ pub none_texts : (actions variables : List (List ℕ)) (c y : ℕ) → eqb y 0 �
 none_texts actions variables c zero = refl
 none_texts actions variables c (suc y) =
     ne_eqb (suc y) 0 (λ e. omega arith) ∙ sym (none_push (given_texts actions variables c y) (given_text actions variables c y))
-
--- the bits of a variable lie below those of all of them
-pub bits_below : (position actions variables y : ℕ) → actions * variables ≤ 64 → y < variables → position ≡ y * actions → position + actions ≤ 64
-bits_below position actions variables y few low e =
-    omega (arith, mul-le (y + 1) actions variables actions (omega arith) (omega arith), add-mul y 1 actions, mul_comm actions variables)
 
 -- a variable's text, with the position of its first bit counted along
 pub text_here :
@@ -68,6 +58,3 @@ line_some actions variables c n long h = ap (λ k. spaced (given_texts actions v
 
 pub line_none : (actions variables : List (List ℕ)) (c : ℕ) → length variables ≡ 0 → codes "-" ≡ line actions variables c
 line_none actions variables c h = ap (λ vs. line actions vs c) (sym (nil_from_length variables h))
-
-pub length_names : (v : Formula) → v.variables ≤ length v.names → length (variable_names v) ≡ v.variables
-length_names v few = length-map (take v.variables v.names) name_bytes ∙ length-take-le v.variables v.names few

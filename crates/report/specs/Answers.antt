@@ -9,11 +9,13 @@
 --   ShortLine       the report is longer than the output, and the short line was written
 --   Printed         what is printed of a text: its report; or where that does not fit, the short line
 --   Called          the answer to a caller in C: the bytes written, or the number of the refusal below 0
+--   LaidOut         bytes of which P holds were counted, and put at the front of the output
 --
 -- Assumes nothing.
 use Rattle.std.specs.Prelude.{◌≡◌, ℕ, ◌<◌, ◌≤◌, min, ◌⊎◌, List, ◌++◌, length, take, drop, ℤ, pos, negsuc, Ok, Err, Result}
 use Rattle.report.specs.declared.ReportFault.{ReportFault}
 use Rattle.report.specs.declared.ReportFault.TheVariants.{OutputTooShort}
+use Rattle.report.specs.Printers.{PutAtFront}
 use Rattle.report.specs.Reports.{ReportOf}
 use Rattle.report.specs.Texts.{refusal}
 
@@ -64,3 +66,8 @@ pub record NotWritten (text : List ℕ) (size : ℕ) (before : List ℕ) (answer
 
 abbrev pub Called : List ℕ → ℕ → List ℕ → ℤ → List ℕ → Type 0
 Called text size before answer after = Written text size before answer after ⊎ NotWritten text size before answer after
+
+pub record LaidOut (P : List ℕ → Type 0) (before : List ℕ) (n : ℕ) (after : List ℕ) : Type 0 where
+  pub bytes : List ℕ
+  pub holds : P bytes
+  pub put : PutAtFront bytes before n after

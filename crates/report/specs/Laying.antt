@@ -4,13 +4,15 @@
 --   Starts        where the next word begins, or none where nothing but blanks is left
 --   KeptModel     the value that an admissible content is kept as
 --   ReadTo        the sheet from a position on is read up to another, and its formula kept
---   NotRead       it is refused, with the position moved
---   ReadAt        one or the other, by the answer
+--   ReadAt        it is, or its reader refuses it, by the answer
+--   Refused       the sheet is refused: by its reader, the position moved by where it begins; or at its first word
 --   SheetLaid     a sheet was told, and its report laid out; or it is refused, and nothing was
 --
 -- Assumes nothing.
-use Rattle.std.specs.Prelude.{◌≡◌, ℕ, ◌+◌, ◌*◌, ◌/◌, ◌<◌, ◌≤◌, List, length, drop, Some, None, Ok, Err, Option, Result}
+use Rattle.std.specs.Prelude.{◌≡◌, ℕ, ◌+◌, ◌*◌, ◌/◌, ◌<◌, ◌≤◌, List, [], length, drop, Some, None, Ok, Err, Option, Result}
 use Rattle.logic.specs.Codes.{valuation}
+use Rattle.words.specs.declared.Fault.{Fault}
+use Rattle.words.specs.Faults.{number, position}
 use Rattle.words.specs.Words.{WordAt, Ends}
 use Rattle.model.specs.Content.{Content}
 use Rattle.model.specs.Grammar.{Admissible}
@@ -20,11 +22,12 @@ use Rattle.formula.specs.declared.Formula.{Formula}
 use Rattle.formula.specs.Sheets as formula
 use Rattle.store.specs.Frames.{Frame}
 use Rattle.full.specs.Bytes.{width}
-use Rattle.report.specs.declared.marks.Mark.{Mark}
-use Rattle.report.specs.declared.sheets.Laid.{Laid}
-use Rattle.report.specs.declared.sheets.Refused.{Refused}
-use Rattle.report.specs.Formulas.{LaysSome}
-use Rattle.report.specs.Reports.{Told, SheetStops}
+use Rattle.evaluate.specs.Faults.{evaluation_number}
+use Rattle.report.specs.declared.faults.SheetFault.{SheetFault}
+use Rattle.report.specs.declared.faults.SheetFault.TheVariants.{Reading, Evaluation}
+use Rattle.report.specs.declared.printer.Printer.{Printer}
+use Rattle.report.specs.Printers.{Lays, LaysSome}
+use Rattle.report.specs.Reports.{Told, Misread, TooLarge}
 
 abbrev pub whole_frame : ℕ → ℕ → ℕ → Frame
 whole_frame size actions variables = record {
@@ -52,15 +55,14 @@ pub record ReadTo (text : List ℕ) (from : ℕ) (actions properties : List (Lis
   pub further : from < next
   pub inside : next ≤ length text
 
-pub record NotRead (text : List ℕ) (from : ℕ) (actions properties : List (List ℕ)) (n at : ℕ) : Type 0 where
-  pub offset : ℕ
-  pub refused : formula.Refusal (drop from text) actions properties n offset
-  pub moved : at ≡ from + offset
-
-abbrev pub ReadAt : List ℕ → ℕ → List (List ℕ) → List (List ℕ) → Result ℕ Refused → Formula → Type 0
+abbrev pub ReadAt : List ℕ → ℕ → List (List ℕ) → List (List ℕ) → Result ℕ Fault → Formula → Type 0
 ReadAt text from actions properties (Ok next) place = ReadTo text from actions properties next place
-ReadAt text from actions properties (Err r) place = NotRead text from actions properties r.number r.at
+ReadAt text from actions properties (Err e) place = formula.Refusal (drop from text) actions properties (number e) (position e)
 
-abbrev pub SheetLaid : List ℕ → ℕ → Content → ℕ → Mark → List ℕ → Result Laid Refused → List ℕ → Type 0
-SheetLaid text size c from m before (Ok l) after = LaysSome (λ bytes. Told text size c from bytes l.next) m before l.mark after
-SheetLaid text size c from m before (Err r) after = SheetStops text size c from r.number r.at × (after ≡ before)
+abbrev pub Refused : List ℕ → ℕ → Content → ℕ → SheetFault → Type 0
+Refused text size c from (Reading e) = Misread text size c from (number e) (from + position e)
+Refused text size c from (Evaluation e) = (first end : ℕ) → WordAt text from first end → TooLarge text size c from (evaluation_number e) first
+
+abbrev pub SheetLaid : List ℕ → ℕ → Content → ℕ → Printer → Result ℕ SheetFault → Printer → Type 0
+SheetLaid text size c from p (Ok next) q = LaysSome (λ bytes. Told text size c from bytes next) p q
+SheetLaid text size c from p (Err e) q = Refused text size c from e × Lays p [] q

@@ -1,4 +1,4 @@
-pub mod Marks
+pub mod Printers
 pub mod Lines
 pub mod Texts
 pub mod Listings

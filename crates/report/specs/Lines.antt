@@ -12,18 +12,18 @@
 --   line_end     the byte that ends a line
 --
 -- Names are given as their bytes. Assumes nothing.
-use Rattle.std.specs.Prelude.{ℕ, zero, suc, Bool, true, false, cond, List, [], ◌∷◌, ◌++◌, map, length, take, codes, slice_index_or}
+use Rattle.std.specs.Prelude.{ℕ, zero, suc, Bool, true, false, cond, List, [], ◌∷◌, ◌++◌, length, codes, slice_index_or}
 use Rattle.std.specs.List.{flat_map}
 use Rattle.logic.specs.Codes.{gives}
-use Rattle.words.specs.Words.{name_bytes}
+use Rattle.words.specs.Words.{listed}
 use Rattle.model.specs.declared.Model.{Model}
 use Rattle.formula.specs.declared.Formula.{Formula}
 
 abbrev pub action_names : Model → List (List ℕ)
-action_names m = map name_bytes (take m.vocabulary.action_count m.vocabulary.actions)
+action_names m = listed m.vocabulary.actions
 
 abbrev pub variable_names : Formula → List (List ℕ)
-variable_names v = map name_bytes (take v.variables v.names)
+variable_names v = listed v.variables
 
 abbrev pub spaced : List (List ℕ) → List ℕ
 spaced [] = []

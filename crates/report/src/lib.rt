@@ -8,11 +8,11 @@ pub use calls::{arcsyn_report, printed, report};
 
 mod calls;
 mod codes;
+mod faults;
 mod formulas;
 pub mod laws;
 mod lines;
-mod marks;
-mod numbers;
+mod printer;
 mod sheets;
 mod texts;
 

@@ -2,105 +2,68 @@
 ghost use Rattle.std.specs.Prelude.{◌+◌, ◌*◌, ◌≤◌, ◌++◌, map, length};
 ghost use Rattle.logic.specs.Codes.{bit};
 ghost use Rattle.words.specs.Words.{name_bytes};
-ghost use Rattle.report.specs.Lines.{spaced, gap, passing, braced, given_texts, line, line_end, variable_names};
-ghost use Rattle.report.specs.Marks.{Lays};
+ghost use Rattle.report.specs.Lines.{spaced, passing, braced, given_texts, line, line_end};
+ghost use Rattle.report.specs.Printers.{Lays};
 
-use crate::marks::{Mark, put, put_bytes};
-use formula::Formula;
+use crate::printer::Printer;
 use words::Name;
 
-// What the code gives each variable, and the end of the line.
-pub(crate) fn put_line(
-    out: &mut [u8],
-    mark: Mark,
-    actions: &[Name],
-    formula: &Formula,
-    code: usize,
-) -> Mark
-    requires few { length actions.now * formula.now.variables ≤ 64 }
-    requires named { formula.now.variables ≤ length formula.now.names }
-    ensures { Lays mark out.old (line (map name_bytes actions.now) (variable_names formula.now) code ++ line_end) result out.new }
-{
-    let behind = if formula.variables() == 0 {
-        put(out, mark, b'-')
-    } else {
-        put_variables(out, mark, actions, formula, code)
-    };
-    put(out, behind, b'\n')
+// The names that lines are written in: those of the actions, and those of the variables.
+#[derive(Clone, Copy)]
+pub struct LineNames<'a> {
+    pub actions: &'a [Name],
+    pub variables: &'a [Name],
+    ghost few: { length actions.now * length variables.now ≤ 64 },
 }
 
-// One walk: the bits of a variable begin where those of the one before end.
-fn put_variables(
-    out: &mut [u8],
-    mark: Mark,
-    actions: &[Name],
-    formula: &Formula,
-    code: usize,
-) -> Mark
-    requires { length actions.now * formula.now.variables ≤ 64 }
-    ensures { Lays mark out.old (spaced (given_texts (map name_bytes actions.now) (variable_names formula.now) code formula.now.variables)) result out.new }
-{
-    let mut behind = mark;
-    let mut position = 0;
-    let count = formula.variables();
-    for y in 0..count {
-        let before = put_gap(out, behind, y == 0);
-        behind = put_variable(
-            out,
-            before,
-            actions,
-            formula.variable_name(y),
-            code,
-            position,
-        );
-        position += actions.len();
+impl Printer<'_> {
+    // What the code gives each variable, and the end of the line.
+    pub(crate) fn put_line(&mut self, names: &LineNames, code: usize)
+        ensures { Lays self.old (line (map name_bytes names.now.actions.now) (map name_bytes names.now.variables.now) code ++ line_end) self.new }
+    {
+        if names.variables.is_empty() {
+            self.put(b'-');
+        } else {
+            self.put_variables(names, code);
+        }
+        self.put(b'\n');
     }
-    behind
-}
 
-fn put_variable(
-    out: &mut [u8],
-    mark: Mark,
-    actions: &[Name],
-    name: &[u8],
-    code: usize,
-    position: usize,
-) -> Mark
-    requires { position + length actions.now ≤ 64 }
-    ensures { Lays mark out.old (braced name.now (passing (λ a. bit code (position + a)) (map name_bytes actions.now) (length actions.now))) result out.new }
-{
-    let named = put_bytes(out, mark, name);
-    let opened = put_bytes(out, named, b"={");
-    let listed = put_actions(out, opened, actions, code, position);
-    put(out, listed, b'}')
-}
-
-// The names of the actions whose bits the code has, from the bit `position` on.
-fn put_actions(out: &mut [u8], mark: Mark, actions: &[Name], code: usize, position: usize) -> Mark
-    requires { position + length actions.now ≤ 64 }
-    ensures { Lays mark out.old (spaced (passing (λ a. bit code (position + a)) (map name_bytes actions.now) (length actions.now))) result out.new }
-{
-    let mut behind = mark;
-    let mut first = true;
-    for a in 0..actions.len() {
-        if (code >> (position + a)) % 2 == 1 {
-            behind = put_gap(out, behind, first);
-            behind = put_name(out, behind, &actions[a]);
-            first = false;
+    // The bits of a variable begin where those of the one before end.
+    fn put_variables(&mut self, names: &LineNames, code: usize)
+        ensures { Lays self.old (spaced (given_texts (map name_bytes names.now.actions.now) (map name_bytes names.now.variables.now) code (length names.now.variables.now))) self.new }
+    {
+        let actions = names.actions;
+        let mut gap: &[u8] = b"";
+        for (y, name) in names.variables.iter().enumerate() {
+            self.put_bytes(gap);
+            self.put_variable(actions, name, code, y * actions.len());
+            gap = b" ";
         }
     }
-    behind
-}
 
-fn put_gap(out: &mut [u8], mark: Mark, first: bool) -> Mark
-    ensures { Lays mark out.old (gap first) result out.new }
-{
-    if first { mark } else { put(out, mark, b' ') }
-}
+    fn put_variable(&mut self, actions: &[Name], name: &Name, code: usize, position: usize)
+        requires { position + length actions.now ≤ 64 }
+        ensures { Lays self.old (braced (name_bytes name.now) (passing (λ a. bit code (position + a)) (map name_bytes actions.now) (length actions.now))) self.new }
+    {
+        self.put_bytes(name.as_bytes());
+        self.put_bytes(b"={");
+        self.put_actions(actions, code, position);
+        self.put(b'}');
+    }
 
-fn put_name(out: &mut [u8], mark: Mark, name: &Name) -> Mark
-    ensures { Lays mark out.old (name_bytes name.now) result out.new }
-{
-    let len = name.len.min(8);
-    put_bytes(out, mark, &name.bytes[0..len])
+    // The names of the actions whose bits the code has, from the bit `position` on.
+    fn put_actions(&mut self, actions: &[Name], code: usize, position: usize)
+        requires { position + length actions.now ≤ 64 }
+        ensures { Lays self.old (spaced (passing (λ a. bit code (position + a)) (map name_bytes actions.now) (length actions.now))) self.new }
+    {
+        let mut gap: &[u8] = b"";
+        for (a, name) in actions.iter().enumerate() {
+            if (code >> (position + a)) % 2 == 1 {
+                self.put_bytes(gap);
+                self.put_bytes(name.as_bytes());
+                gap = b" ";
+            }
+        }
+    }
 }

@@ -1,34 +1,33 @@
 // The lines of a report that stand around those of codes.
-ghost use Rattle.report.specs.Marks.{Lays};
+ghost use Rattle.std.specs.Prelude.{◌++◌, decimal};
+ghost use Rattle.report.specs.Printers.{Lays};
 ghost use Rattle.report.specs.Texts.{heading, refusal};
 
-use crate::marks::{Mark, put, put_bytes};
-use crate::numbers::put_number;
+use crate::printer::Printer;
 
-pub(crate) fn put_heading(
-    out: &mut [u8],
-    mark: Mark,
-    held: usize,
-    all: usize,
-    rounds: usize,
-) -> Mark
-    ensures { Lays mark out.old (heading held all rounds) result out.new }
-{
-    let first = put_bytes(out, mark, b"held ");
-    let second = put_number(out, first, held);
-    let third = put_bytes(out, second, b" of ");
-    let fourth = put_number(out, third, all);
-    let fifth = put_bytes(out, fourth, b" rounds ");
-    let sixth = put_number(out, fifth, rounds);
-    put(out, sixth, b'\n')
-}
+impl Printer<'_> {
+    pub(crate) fn put_heading(&mut self, held: usize, all: usize, rounds: usize)
+        ensures { Lays self.old (heading held all rounds) self.new }
+    {
+        self.put_count(b"held ", held);
+        self.put_count(b" of ", all);
+        self.put_count(b" rounds ", rounds);
+        self.put(b'\n');
+    }
 
-pub(crate) fn put_refusal(out: &mut [u8], mark: Mark, number: usize, at: usize) -> Mark
-    ensures { Lays mark out.old (refusal number at) result out.new }
-{
-    let first = put_bytes(out, mark, b"refused ");
-    let second = put_number(out, first, number);
-    let third = put_bytes(out, second, b" at ");
-    let fourth = put_number(out, third, at);
-    put(out, fourth, b'\n')
+    pub(crate) fn put_refusal(&mut self, number: usize, at: usize)
+        ensures { Lays self.old (refusal number at) self.new }
+    {
+        self.put_count(b"refused ", number);
+        self.put_count(b" at ", at);
+        self.put(b'\n');
+    }
+
+    // A number behind a word.
+    fn put_count(&mut self, word: &[u8], n: usize)
+        ensures { Lays self.old (word.now ++ decimal n) self.new }
+    {
+        self.put_bytes(word);
+        self.put_number(n);
+    }
 }

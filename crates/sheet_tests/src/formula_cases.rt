@@ -5,19 +5,14 @@ use words::{Fault, name_of};
 
 fn keys() -> Vocabulary {
     let mut vocabulary = Vocabulary::BLANK;
-    vocabulary.actions[0] = name_of(b"key");
-    vocabulary.actions[1] = name_of(b"bus");
-    vocabulary.action_count = 2;
-    vocabulary.properties[0] = name_of(b"safe");
-    vocabulary.property_count = 1;
+    vocabulary.actions.push(name_of(b"key"));
+    vocabulary.actions.push(name_of(b"bus"));
+    vocabulary.properties.push(name_of(b"safe"));
     vocabulary
 }
 
 fn refusal(text: &[u8], place: &mut Formula) -> Option<Fault> {
-    match read_formula(text, &keys(), place) {
-        Ok(_) => None,
-        Err(fault) => Some(fault),
-    }
+    read_formula(text, &keys(), place).err()
 }
 
 fn refused(text: &[u8]) -> Option<Fault> {

@@ -1,5 +1,5 @@
 // Model sheets against the answers that the rules give.
-use model::{Model, read_model};
+use model::{Counts, Model, read_model};
 use std::test::Fail;
 use words::Fault;
 
@@ -7,10 +7,7 @@ const DISPLAY: &[u8] =
     b"3 idle menu lock 2 key bus 1 safe 1 lock safe 3 idle key menu menu key idle menu bus lock";
 
 fn refusal(text: &[u8], place: &mut Model) -> Option<Fault> {
-    match read_model(text, place) {
-        Ok(_) => None,
-        Err(fault) => Some(fault),
-    }
+    read_model(text, place).err()
 }
 
 fn refused(text: &[u8]) -> Option<Fault> {
@@ -21,24 +18,20 @@ fn refused(text: &[u8]) -> Option<Fault> {
 #[test]
 fn counts_and_rest(rt: HostRuntime) -> Result<(), Fail> {
     let mut place = Model::BLANK;
-    match read_model(
-        b"2 on off 1 key 1 lit 1 on lit 2 on key off off key on 0 true",
-        &mut place,
-    ) {
-        Ok(read) => {
-            assert_eq!(rt; read.counts.states, 2);
-            assert_eq!(rt; read.counts.actions, 1);
-            assert_eq!(rt; read.counts.properties, 1);
-            assert_eq!(rt; read.counts.labels, 1);
-            assert_eq!(rt; read.counts.arcs, 2);
-            assert!(rt; read.rest == b" 0 true".as_slice());
-            Ok(())
-        }
-        Err(_) => {
-            assert!(rt; false);
-            Ok(())
-        },
-    }
+    let text = b"2 on off 1 key 1 lit 1 on lit 2 on key off off key on 0 true";
+    let Ok(read) = read_model(text, &mut place) else {
+        return Err(Fail::new("the sheet is refused"));
+    };
+    let counts = Counts {
+        states: 2,
+        actions: 1,
+        properties: 1,
+        labels: 1,
+        arcs: 2,
+    };
+    assert_eq!(rt; read.counts, counts);
+    assert!(rt; read.rest == b" 0 true".as_slice());
+    Ok(())
 }
 
 #[test]
@@ -46,9 +39,9 @@ fn names_and_numbers(rt: HostRuntime) {
     let mut place = Model::BLANK;
     assert_eq!(rt; refusal(DISPLAY, &mut place), None);
     assert_eq!(rt; place.states.find(b"lock"), Some(2));
-    assert_eq!(rt; place.vocabulary.find_action(b"bus"), Some(1));
-    assert_eq!(rt; place.vocabulary.find_property(b"safe"), Some(0));
-    assert_eq!(rt; place.vocabulary.find_property(b"lock"), None);
+    assert_eq!(rt; place.vocabulary.actions.find(b"bus"), Some(1));
+    assert_eq!(rt; place.vocabulary.properties.find(b"safe"), Some(0));
+    assert_eq!(rt; place.vocabulary.properties.find(b"lock"), None);
     assert!(rt; place.states.name(1) == b"menu".as_slice());
     assert!(rt; place.states.name(3) == b"".as_slice());
 }

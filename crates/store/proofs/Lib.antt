@@ -1,5 +1,4 @@
 mod Covering
 mod Marks
 pub mod Refusals
-mod Smallest
 mod Valuations

@@ -5,7 +5,8 @@ ghost use Rattle.store.specs.Shapes.{shape_actions, shape_variables, Made};
 
 use crate::fault::Fault;
 
-// Every value is read into the limits, so that a shape carries no proof.
+// Every value is read into the limits. Ghost fields that state them were tried: then `Single::open` gets no proof, since it
+// makes a `Result` over what holds a `&mut` and, in its shape, a ghost field.
 #[derive(Clone, Copy, PartialEq, Eq, Debug)]
 pub struct Shape {
     actions: usize,
@@ -42,11 +43,12 @@ impl Shape {
         self.actions() * self.variables()
     }
 
+    #[tactic(auto, using(crate::proofs::Valuations::codes_most))]
     pub fn codes(self) -> usize
         ensures value { result ≡ 2 ^ (shape_actions self * shape_variables self) }
         ensures most { result ≤ 4096 }
     {
-        power_of_two(self.bits())
+        1 << self.bits()
     }
 
     pub fn is_valuation(self, c: usize) -> bool
@@ -61,19 +63,6 @@ impl Shape {
     {
         let actions = self.actions();
         let variables = self.variables();
-        for y in 0..variables {
-            if (c >> (y * actions)) % (1 << actions) == 0 {
-                return false;
-            }
-        }
-        true
+        (0..variables).all(|y| (c >> (y * actions)) % (1 << actions) != 0)
     }
-}
-
-fn power_of_two(n: usize) -> usize
-    requires { n ≤ 12 }
-    ensures value { result ≡ 2 ^ n }
-    ensures most { result ≤ 4096 }
-{
-    1 << n
 }

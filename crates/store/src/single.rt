@@ -1,7 +1,7 @@
 // The single store: its universe is one valuation, and each set is one byte of the caller's.
-ghost use Rattle.std.specs.Prelude.{◌≡◌, ◌<◌, true, false, not, ◌&&◌, ◌||◌, length, set, if◌then◌else◌, Decides, slice_set};
+ghost use Rattle.std.specs.Prelude.{◌≡◌, true, false, not, ◌==◌, ◌&&◌, ◌||◌};
 ghost use Rattle.logic.specs.Codes.{bit};
-ghost use Rattle.store.specs.Calls.{one_set, two_sets, set_and_bit};
+ghost use Rattle.store.specs.Calls.{one_set, two_sets, set_and_bit, Answers};
 ghost use Rattle.store.specs.Singles.{code_held, marked, single_frame, single_sets, Opened, SingleAlters, Writes};
 ghost use Rattle.store.specs.SingleLaws.{single_sound, single_coded};
 
@@ -26,32 +26,39 @@ impl<'a> Single<'a> {
             Err(Fault::NoValuation)
         }
     }
-}
 
-// The code, if it is a valuation, and else that of all actions for each variable.
-fn held_code(shape: Shape, code: usize) -> usize
-    ensures { result ≡ code_held shape code }
-{
-    if shape.is_valuation(code) {
-        code
-    } else {
-        shape.codes() - 1
+    // The code, if it is a valuation, and else that of all actions for each variable.
+    fn valuation(&self) -> usize
+        ensures { result ≡ code_held self.now.shape self.now.code }
+    {
+        if self.shape.is_valuation(self.code) {
+            self.code
+        } else {
+            self.shape.codes() - 1
+        }
     }
-}
 
-// Whether both sets have the one valuation, or neither.
-fn alike(cells: &[u8], i: usize, j: usize) -> bool
-    requires { (i < length cells.now) × (j < length cells.now) }
-    ensures { Decides result (marked cells.now i ≡ marked cells.now j) }
-{
-    (0 < cells[i]) == (0 < cells[j])
-}
+    // Whether the set i has the valuation.
+    fn holds(&self, i: usize) -> Result<bool, Fault>
+        ensures { Answers result (one_set (single_frame self.now) i) (λ b. b ≡ marked self.now.cells.now i) }
+    {
+        self.cells
+            .get(i)
+            .map(|cell| 0 < *cell)
+            .ok_or(Fault::NoSuchSet)
+    }
 
-fn mark(cells: &mut [u8], i: usize, on: bool)
-    requires { i < length cells.old }
-    ensures { cells.new ≡ slice_set cells.old i (if on then 1 else 0) }
-{
-    cells[i] = on as u8;
+    // Leaves 1 in the byte of the set i, or 0.
+    fn mark(&mut self, i: usize, on: bool) -> Result<(), Fault>
+        ensures alters { SingleAlters self.old self.new result (one_set (single_frame self.old) i) i (λ c. c == code_held self.old.shape self.old.code && on) }
+        ensures bytes { Writes self.old self.new result i on }
+    {
+        if i >= self.cells.len() {
+            return Err(Fault::NoSuchSet);
+        }
+        self.cells[i] = u8::from(on);
+        Ok(())
+    }
 }
 
 impl<'a> Store for Single<'a> {
@@ -79,119 +86,78 @@ impl<'a> Store for Single<'a> {
         ensures alters { SingleAlters self.old self.new result (one_set (single_frame self.old) i) i (λ _. false) }
         ensures bytes { Writes self.old self.new result i false }
     {
-        if i >= self.cells.len() {
-            return Err(Fault::NoSuchSet);
-        }
-        mark(self.cells, i, false);
-        Ok(())
+        self.mark(i, false)
     }
 
     fn fill(&mut self, i: usize) -> Result<(), Fault>
         ensures alters { SingleAlters self.old self.new result (one_set (single_frame self.old) i) i (λ c. (single_frame self.old).universe c) }
         ensures bytes { Writes self.old self.new result i true }
     {
-        if i >= self.cells.len() {
-            return Err(Fault::NoSuchSet);
-        }
-        mark(self.cells, i, true);
-        Ok(())
+        self.mark(i, true)
     }
 
     fn copy(&mut self, i: usize, j: usize) -> Result<(), Fault>
         ensures alters { SingleAlters self.old self.new result (two_sets (single_frame self.old) i j) i (λ c. single_sets self.old j c) }
         ensures bytes { Writes self.old self.new result i (marked self.old.cells.now j) }
     {
-        if i >= self.cells.len() || j >= self.cells.len() {
-            return Err(Fault::NoSuchSet);
-        }
-        let on = 0 < self.cells[j];
-        mark(self.cells, i, on);
-        Ok(())
+        let on = self.holds(j)?;
+        self.mark(i, on)
     }
 
     fn join(&mut self, i: usize, j: usize) -> Result<(), Fault>
         ensures alters { SingleAlters self.old self.new result (two_sets (single_frame self.old) i j) i (λ c. single_sets self.old i c || single_sets self.old j c) }
         ensures bytes { Writes self.old self.new result i (marked self.old.cells.now i || marked self.old.cells.now j) }
     {
-        if i >= self.cells.len() || j >= self.cells.len() {
-            return Err(Fault::NoSuchSet);
-        }
-        let first = 0 < self.cells[i];
-        let second = 0 < self.cells[j];
-        mark(self.cells, i, first | second);
-        Ok(())
+        let either = self.holds(i)? | self.holds(j)?;
+        self.mark(i, either)
     }
 
     fn meet(&mut self, i: usize, j: usize) -> Result<(), Fault>
         ensures alters { SingleAlters self.old self.new result (two_sets (single_frame self.old) i j) i (λ c. single_sets self.old i c && single_sets self.old j c) }
         ensures bytes { Writes self.old self.new result i (marked self.old.cells.now i && marked self.old.cells.now j) }
     {
-        if i >= self.cells.len() || j >= self.cells.len() {
-            return Err(Fault::NoSuchSet);
-        }
-        let first = 0 < self.cells[i];
-        let second = 0 < self.cells[j];
-        mark(self.cells, i, first & second);
-        Ok(())
+        let both = self.holds(i)? & self.holds(j)?;
+        self.mark(i, both)
     }
 
     fn flip(&mut self, i: usize) -> Result<(), Fault>
         ensures alters { SingleAlters self.old self.new result (one_set (single_frame self.old) i) i (λ c. (single_frame self.old).universe c && not (single_sets self.old i c)) }
         ensures bytes { Writes self.old self.new result i (not (marked self.old.cells.now i)) }
     {
-        if i >= self.cells.len() {
-            return Err(Fault::NoSuchSet);
-        }
-        let on = 0 < self.cells[i];
-        mark(self.cells, i, !on);
-        Ok(())
+        let on = self.holds(i)?;
+        self.mark(i, !on)
     }
 
     fn pick(&mut self, i: usize, b: usize) -> Result<(), Fault>
         ensures alters { SingleAlters self.old self.new result (set_and_bit (single_frame self.old) i b) i (λ c. single_sets self.old i c && bit c b) }
         ensures bytes { Writes self.old self.new result i (marked self.old.cells.now i && bit (code_held self.old.shape self.old.code) b) }
     {
-        if i >= self.cells.len() {
-            return Err(Fault::NoSuchSet);
-        }
+        let on = self.holds(i)?;
         if b >= self.shape.bits() {
             return Err(Fault::NoSuchBit);
         }
-        let on = 0 < self.cells[i];
-        let bit = (held_code(self.shape, self.code) >> b) % 2 == 1;
-        mark(self.cells, i, on & bit);
-        Ok(())
+        let bit = (self.valuation() >> b) % 2 == 1;
+        self.mark(i, on & bit)
     }
 
     fn same(&self, i: usize, j: usize) -> Result<bool, Fault> {
-        if i >= self.cells.len() || j >= self.cells.len() {
-            return Err(Fault::NoSuchSet);
-        }
-        Ok(alike(self.cells, i, j))
+        Ok(self.holds(i)? == self.holds(j)?)
     }
 
     fn has(&self, i: usize, c: usize) -> Result<bool, Fault> {
-        if i >= self.cells.len() {
-            return Err(Fault::NoSuchSet);
-        }
+        let on = self.holds(i)?;
         if c >= self.shape.codes() {
             return Err(Fault::CodeTooHigh);
         }
-        Ok((c == held_code(self.shape, self.code)) & (0 < self.cells[i]))
+        Ok((c == self.valuation()) & on)
     }
 
     fn next(&self, i: usize, c: usize) -> Result<Option<usize>, Fault> {
-        if i >= self.cells.len() {
-            return Err(Fault::NoSuchSet);
-        }
+        let on = self.holds(i)?;
         if c > self.shape.codes() {
             return Err(Fault::CodeTooHigh);
         }
-        let code = held_code(self.shape, self.code);
-        if c <= code && 0 < self.cells[i] {
-            Ok(Some(code))
-        } else {
-            Ok(None)
-        }
+        let code = self.valuation();
+        Ok((on & (c <= code)).then_some(code))
     }
 }

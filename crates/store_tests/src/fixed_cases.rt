@@ -25,10 +25,10 @@ fn the_universe_below_the_mask() -> Result<(), Fail> {
         ask_each(
             &mut store,
             &[
-                (Call::Fill(0), Answer::Done),
-                (Call::Has(0, 6), Answer::Says(kept)),
-                (Call::Flip(1), Answer::Done),
-                (Call::Same(0, 1), Answer::Says(true)),
+                (Call::Fill(0), Ok(Answer::Done)),
+                (Call::Has(0, 6), Ok(Answer::Says(kept))),
+                (Call::Flip(1), Ok(Answer::Done)),
+                (Call::Same(0, 1), Ok(Answer::Says(true))),
             ],
         )?;
     }
@@ -47,16 +47,16 @@ fn an_empty_universe(rt: HostRuntime) -> Result<(), Fail> {
     ask_each(
         &mut store,
         &[
-            (Call::Next(0, 0), Answer::Member(6)),
-            (Call::Copy(1, 0), Answer::Done),
-            (Call::Has(1, 6), Answer::Says(true)),
-            (Call::Flip(0), Answer::Done),
-            (Call::Next(0, 0), Answer::NoMember),
-            (Call::Join(0, 1), Answer::Done),
-            (Call::Same(0, 1), Answer::Says(true)),
-            (Call::Meet(0, 0), Answer::Done),
-            (Call::Pick(0, 3), Answer::Done),
-            (Call::Has(0, 6), Answer::Says(false)),
+            (Call::Next(0, 0), Ok(Answer::Member(Some(6)))),
+            (Call::Copy(1, 0), Ok(Answer::Done)),
+            (Call::Has(1, 6), Ok(Answer::Says(true))),
+            (Call::Flip(0), Ok(Answer::Done)),
+            (Call::Next(0, 0), Ok(Answer::Member(None))),
+            (Call::Join(0, 1), Ok(Answer::Done)),
+            (Call::Same(0, 1), Ok(Answer::Says(true))),
+            (Call::Meet(0, 0), Ok(Answer::Done)),
+            (Call::Pick(0, 3), Ok(Answer::Done)),
+            (Call::Has(0, 6), Ok(Answer::Says(false))),
         ],
     )?;
     let below = store.into_below();
@@ -85,10 +85,10 @@ fn fixed_over_fixed() -> Result<(), Fail> {
         ask_each(
             &mut store,
             &[
-                (Call::Fill(0), Answer::Done),
-                (Call::Has(0, 6), Answer::Says(kept)),
-                (Call::Flip(0), Answer::Done),
-                (Call::Has(0, 6), Answer::Says(false)),
+                (Call::Fill(0), Ok(Answer::Done)),
+                (Call::Has(0, 6), Ok(Answer::Says(kept))),
+                (Call::Flip(0), Ok(Answer::Done)),
+                (Call::Has(0, 6), Ok(Answer::Says(false))),
             ],
         )?;
     }

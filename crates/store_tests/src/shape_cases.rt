@@ -61,3 +61,17 @@ fn valuations_give_each_variable_an_action(rt: HostRuntime) -> Result<(), Fail> 
     }
     Ok(())
 }
+
+#[test]
+fn refusals_have_their_numbers(rt: HostRuntime) {
+    for row in &[
+        (Fault::NoShape, 30),
+        (Fault::NoValuation, 31),
+        (Fault::NoSuchSet, 32),
+        (Fault::NoSuchBit, 33),
+        (Fault::CodeTooHigh, 34),
+    ] {
+        let (fault, number) = *row;
+        assert_eq!(rt; fault.number(), number);
+    }
+}

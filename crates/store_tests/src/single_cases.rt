@@ -36,8 +36,11 @@ fn refusals_at_their_edges(rt: HostRuntime) -> Result<(), Fail> {
         ask_each(
             &mut store,
             &[
-                (Call::Has(0, codes - 1), Answer::Says(true)),
-                (Call::Next(0, codes - 1), Answer::Member(codes - 1)),
+                (Call::Has(0, codes - 1), Ok(Answer::Says(true))),
+                (
+                    Call::Next(0, codes - 1),
+                    Ok(Answer::Member(Some(codes - 1))),
+                ),
             ],
         )?;
         assert_eq!(rt; cells, [1, 0]);
@@ -53,11 +56,11 @@ fn no_sets_over_no_bytes(rt: HostRuntime) -> Result<(), Fail> {
     ask_each(
         &mut store,
         &[
-            (Call::Fill(0), Answer::Refused(32)),
-            (Call::Pick(0, 0), Answer::Refused(32)),
-            (Call::Same(0, 0), Answer::Refused(32)),
-            (Call::Has(0, 3), Answer::Refused(32)),
-            (Call::Next(0, 0), Answer::Refused(32)),
+            (Call::Fill(0), Err(Fault::NoSuchSet)),
+            (Call::Pick(0, 0), Err(Fault::NoSuchSet)),
+            (Call::Same(0, 0), Err(Fault::NoSuchSet)),
+            (Call::Has(0, 3), Err(Fault::NoSuchSet)),
+            (Call::Next(0, 0), Err(Fault::NoSuchSet)),
         ],
     )?;
     Ok(())
@@ -67,11 +70,11 @@ fn no_sets_over_no_bytes(rt: HostRuntime) -> Result<(), Fail> {
 #[test]
 fn one_set_twice(rt: HostRuntime) -> Result<(), Fail> {
     for row in &[
-        (Call::Copy(1, 1), Answer::Done, [0, 1, 255]),
-        (Call::Join(1, 1), Answer::Done, [0, 1, 255]),
-        (Call::Meet(2, 2), Answer::Done, [0, 7, 1]),
-        (Call::Meet(0, 0), Answer::Done, [0, 7, 255]),
-        (Call::Same(1, 1), Answer::Says(true), [0, 7, 255]),
+        (Call::Copy(1, 1), Ok(Answer::Done), [0, 1, 255]),
+        (Call::Join(1, 1), Ok(Answer::Done), [0, 1, 255]),
+        (Call::Meet(2, 2), Ok(Answer::Done), [0, 7, 1]),
+        (Call::Meet(0, 0), Ok(Answer::Done), [0, 7, 255]),
+        (Call::Same(1, 1), Ok(Answer::Says(true)), [0, 7, 255]),
     ] {
         let (call, answer, left) = *row;
         let mut cells = [0u8, 7, 255];
@@ -85,20 +88,20 @@ fn one_set_twice(rt: HostRuntime) -> Result<(), Fail> {
 #[test]
 fn two_sets(rt: HostRuntime) -> Result<(), Fail> {
     for row in &[
-        (Call::Clear(2), Answer::Done, [0, 7, 0]),
-        (Call::Fill(0), Answer::Done, [1, 7, 255]),
-        (Call::Copy(0, 1), Answer::Done, [1, 7, 255]),
-        (Call::Join(0, 2), Answer::Done, [1, 7, 255]),
-        (Call::Meet(1, 0), Answer::Done, [0, 0, 255]),
-        (Call::Flip(2), Answer::Done, [0, 7, 0]),
-        (Call::Pick(1, 2), Answer::Done, [0, 1, 255]),
-        (Call::Pick(1, 3), Answer::Done, [0, 0, 255]),
-        (Call::Same(1, 2), Answer::Says(true), [0, 7, 255]),
-        (Call::Same(0, 1), Answer::Says(false), [0, 7, 255]),
-        (Call::Has(1, 5), Answer::Says(false), [0, 7, 255]),
-        (Call::Next(2, 0), Answer::Member(6), [0, 7, 255]),
-        (Call::Next(2, 7), Answer::NoMember, [0, 7, 255]),
-        (Call::Next(0, 0), Answer::NoMember, [0, 7, 255]),
+        (Call::Clear(2), Ok(Answer::Done), [0, 7, 0]),
+        (Call::Fill(0), Ok(Answer::Done), [1, 7, 255]),
+        (Call::Copy(0, 1), Ok(Answer::Done), [1, 7, 255]),
+        (Call::Join(0, 2), Ok(Answer::Done), [1, 7, 255]),
+        (Call::Meet(1, 0), Ok(Answer::Done), [0, 0, 255]),
+        (Call::Flip(2), Ok(Answer::Done), [0, 7, 0]),
+        (Call::Pick(1, 2), Ok(Answer::Done), [0, 1, 255]),
+        (Call::Pick(1, 3), Ok(Answer::Done), [0, 0, 255]),
+        (Call::Same(1, 2), Ok(Answer::Says(true)), [0, 7, 255]),
+        (Call::Same(0, 1), Ok(Answer::Says(false)), [0, 7, 255]),
+        (Call::Has(1, 5), Ok(Answer::Says(false)), [0, 7, 255]),
+        (Call::Next(2, 0), Ok(Answer::Member(Some(6))), [0, 7, 255]),
+        (Call::Next(2, 7), Ok(Answer::Member(None)), [0, 7, 255]),
+        (Call::Next(0, 0), Ok(Answer::Member(None)), [0, 7, 255]),
     ] {
         let (call, answer, left) = *row;
         let mut cells = [0u8, 7, 255];

@@ -18,32 +18,34 @@ pub enum Call {
     Next(usize, usize),
 }
 
+// What an accepted call answers.
 #[derive(Clone, Copy, PartialEq, Eq, Debug)]
 pub enum Answer {
     Done,
     Says(bool),
-    Member(usize),
-    NoMember,
-    Refused(u8),
+    Member(Option<usize>),
 }
 
-pub fn ask<S: Store>(store: &mut S, call: Call) -> Answer {
+pub fn ask<S: Store>(store: &mut S, call: Call) -> Result<Answer, Fault> {
     match call {
-        Call::Clear(i) => done(store.clear(i)),
-        Call::Fill(i) => done(store.fill(i)),
-        Call::Copy(i, j) => done(store.copy(i, j)),
-        Call::Join(i, j) => done(store.join(i, j)),
-        Call::Meet(i, j) => done(store.meet(i, j)),
-        Call::Flip(i) => done(store.flip(i)),
-        Call::Pick(i, b) => done(store.pick(i, b)),
-        Call::Same(i, j) => says(store.same(i, j)),
-        Call::Has(i, c) => says(store.has(i, c)),
-        Call::Next(i, c) => member(store.next(i, c)),
+        Call::Clear(i) => store.clear(i).map(|()| Answer::Done),
+        Call::Fill(i) => store.fill(i).map(|()| Answer::Done),
+        Call::Copy(i, j) => store.copy(i, j).map(|()| Answer::Done),
+        Call::Join(i, j) => store.join(i, j).map(|()| Answer::Done),
+        Call::Meet(i, j) => store.meet(i, j).map(|()| Answer::Done),
+        Call::Flip(i) => store.flip(i).map(|()| Answer::Done),
+        Call::Pick(i, b) => store.pick(i, b).map(|()| Answer::Done),
+        Call::Same(i, j) => store.same(i, j).map(Answer::Says),
+        Call::Has(i, c) => store.has(i, c).map(Answer::Says),
+        Call::Next(i, c) => store.next(i, c).map(Answer::Member),
     }
 }
 
 // Every call of the table in order, each with its answer.
-pub fn ask_each<S: Store>(store: &mut S, table: &[(Call, Answer)]) -> Result<(), Fail> {
+pub fn ask_each<S: Store>(
+    store: &mut S,
+    table: &[(Call, Result<Answer, Fault>)],
+) -> Result<(), Fail> {
     for row in table {
         let (call, owed) = *row;
         let given = ask(store, call);
@@ -61,51 +63,29 @@ pub fn ask_at_the_edges<S: Store>(store: &mut S, shape: Shape) -> Result<(), Fai
         ask_each(
             store,
             &[
-                (Call::Clear(*i), Answer::Refused(32)),
-                (Call::Fill(*i), Answer::Refused(32)),
-                (Call::Copy(0, *i), Answer::Refused(32)),
-                (Call::Join(*i, 0), Answer::Refused(32)),
-                (Call::Meet(0, *i), Answer::Refused(32)),
-                (Call::Flip(*i), Answer::Refused(32)),
-                (Call::Pick(*i, bits), Answer::Refused(32)),
-                (Call::Same(*i, 0), Answer::Refused(32)),
-                (Call::Has(*i, codes), Answer::Refused(32)),
-                (Call::Next(*i, codes + 1), Answer::Refused(32)),
+                (Call::Clear(*i), Err(Fault::NoSuchSet)),
+                (Call::Fill(*i), Err(Fault::NoSuchSet)),
+                (Call::Copy(0, *i), Err(Fault::NoSuchSet)),
+                (Call::Join(*i, 0), Err(Fault::NoSuchSet)),
+                (Call::Meet(0, *i), Err(Fault::NoSuchSet)),
+                (Call::Flip(*i), Err(Fault::NoSuchSet)),
+                (Call::Pick(*i, bits), Err(Fault::NoSuchSet)),
+                (Call::Same(*i, 0), Err(Fault::NoSuchSet)),
+                (Call::Has(*i, codes), Err(Fault::NoSuchSet)),
+                (Call::Next(*i, codes + 1), Err(Fault::NoSuchSet)),
             ],
         )?;
     }
     ask_each(
         store,
         &[
-            (Call::Pick(0, bits), Answer::Refused(33)),
-            (Call::Pick(0, usize::MAX), Answer::Refused(33)),
-            (Call::Has(0, codes), Answer::Refused(34)),
-            (Call::Has(0, usize::MAX), Answer::Refused(34)),
-            (Call::Next(0, codes + 1), Answer::Refused(34)),
-            (Call::Next(0, usize::MAX), Answer::Refused(34)),
-            (Call::Next(0, codes), Answer::NoMember),
+            (Call::Pick(0, bits), Err(Fault::NoSuchBit)),
+            (Call::Pick(0, usize::MAX), Err(Fault::NoSuchBit)),
+            (Call::Has(0, codes), Err(Fault::CodeTooHigh)),
+            (Call::Has(0, usize::MAX), Err(Fault::CodeTooHigh)),
+            (Call::Next(0, codes + 1), Err(Fault::CodeTooHigh)),
+            (Call::Next(0, usize::MAX), Err(Fault::CodeTooHigh)),
+            (Call::Next(0, codes), Ok(Answer::Member(None))),
         ],
     )
-}
-
-fn done(r: Result<(), Fault>) -> Answer {
-    match r {
-        Ok(()) => Answer::Done,
-        Err(fault) => Answer::Refused(fault.number()),
-    }
-}
-
-fn says(r: Result<bool, Fault>) -> Answer {
-    match r {
-        Ok(b) => Answer::Says(b),
-        Err(fault) => Answer::Refused(fault.number()),
-    }
-}
-
-fn member(r: Result<Option<usize>, Fault>) -> Answer {
-    match r {
-        Ok(Some(c)) => Answer::Member(c),
-        Ok(None) => Answer::NoMember,
-        Err(fault) => Answer::Refused(fault.number()),
-    }
 }

@@ -1,7 +1,7 @@
 -- Walks compose, and lead to one end: there is one word that is due at each point, and it either fits or does not.
 use Rattle.std.proofs.Common.{◌≡◌, ℕ, zero, suc, ◌<◌, true, false, ◌⊎◌, List, length, sym, refl, ap, ◌∙◌, subst, inl, inr, arith}
 use Rattle.words.specs.Words.{WordAt, Clean, Foreign, Ends, bytes_of}
-use Rattle.words.specs.Walks.{Rules, First, Fits, Step, Walk, Walks, Stops, WordRefused, Refused}
+use Rattle.words.specs.Walks.{Rules, First, Fits, Step, Walk, Walks, Stops, WordRefused, Refused, Halts, Leaves}
 use Rattle.words.proofs.Words.{word_unique, word_not_ends, clean_not_foreign, never_both}
 
 pub first_unique : (P : ℕ → Type 0) (n m : ℕ) → First P n → First P m → n ≡ m
@@ -34,12 +34,28 @@ module _ {S : Type 0} (R : Rules S) (text : List ℕ) where
   refused_then s p u m n at w h =
       record { last = h.last; from = h.from; walks = walks_then s p u m h.last h.from w h.walks; stops = h.stops }
 
+  -- a reader that refuses: where it then stands does not matter to the refusal
+  pub leaves_here : (s : S) (p n at end : ℕ) → Halts R text s p n at end → Leaves R text s p n at end
+  leaves_here s p n at end h = record { last = s; from = p; walks = walks_none s p; halts = h }
+
+  pub leaves_then : (s : S) (p : ℕ) (u : S) (m n at end : ℕ) → Walks R text s p u m → Leaves R text u m n at end → Leaves R text s p n at end
+  leaves_then s p u m n at end w h =
+      record { last = h.last; from = h.from; walks = walks_then s p u m h.last h.from w h.walks; halts = h.halts }
+
   pub stops_word : (s : S) (p n at : ℕ) → R.over s ≡ false → WordRefused text p n at → Stops R text s p n at
   stops_word s p n at due (inl h) = record { due = due; fault = inl h }
   stops_word s p n at due (inr h) = record { due = due; fault = inr (h.1.0, h.1.1, inl (h.0, h.1.2)) }
 
   pub stops_meets : (s : S) (p n at end : ℕ) → R.over s ≡ false → WordAt text p at end → Clean text at end → First (R.meets s (bytes_of text at end)) n → Stops R text s p n at
   stops_meets s p n at end due word clean first = record { due = due; fault = inr (end, word, inr (clean, first)) }
+
+  halts_stops : (s : S) (p n at end : ℕ) → R.over s ≡ false → (WordRefused text p n at × (end ≡ p)) ⊎ (WordAt text p at end × Clean text at end × First (R.meets s (bytes_of text at end)) n) → Stops R text s p n at
+  halts_stops s p n at end due (inl h) = stops_word s p n at due h.0
+  halts_stops s p n at end due (inr h) = stops_meets s p n at end due h.0 h.1 h.2
+
+  pub leaves_refused : (s : S) (p n at end : ℕ) → Leaves R text s p n at end → Refused R text s p n at
+  leaves_refused s p n at end h =
+      record { last = h.last; from = h.from; walks = h.walks; stops = halts_stops h.last h.from n at end h.halts.due h.halts.fault }
 
   -- one word is due at a point, so one point follows it
   step_unique : (s : S) (p : ℕ) (t : S) (q : ℕ) (t' : S) (q' : ℕ) → Step R text s p t q → Step R text s p t' q' → (t ≡ t') × (q ≡ q')

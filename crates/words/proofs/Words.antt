@@ -1,13 +1,12 @@
--- The next word from a position on is one word.
-use Rattle.std.proofs.Common.{◌≡◌, ℕ, zero, suc, ◌+◌, ◌-◌, ◌<◌, ◌≤◌, min, Bool, true, false, not, eqb, ltb, leb, ◌⊎◌, List, [], ◌∷◌, ◌++◌, length, get_or, take, replicate, sym, refl, ap, ◌∙◌, subst, ⊎_elim, arith}
+-- The next word from a position on is one word, and two runs of bytes find it.
+use Rattle.std.proofs.Common.{◌≡◌, ℕ, ◌+◌, ◌-◌, ◌<◌, ◌≤◌, min, Bool, true, false, not, List, ◌++◌, length, get_or, take, drop, replicate, sym, refl, ap, ◌∙◌, subst, ⊎_elim, length-drop, arith}
 use Rattle.std.specs.List.{prefix_len}
-use Rattle.std.proofs.lemmas.Bool.{cond-true, cond-false, cases_lt}
-use Rattle.std.proofs.lemmas.List.{take_all, take_at}
-use Rattle.std.proofs.lemmas.Bool.Decides.{nat_tests}
+use Rattle.std.proofs.lemmas.Bool.{cases_lt}
+use Rattle.std.proofs.lemmas.List.{get_or-drop, get_or-take, length-take, take_all, take_at}
+use Rattle.std.proofs.lemmas.List.Sums.{prefix_len-le-length, prefix_len_passes, prefix_len_stops}
 use Rattle.words.specs.declared.Class.{Class}
-use Rattle.words.specs.declared.Letters.{Letters}
-use Rattle.words.specs.declared.Class.TheVariants.{Allowed}
-use Rattle.words.specs.Words.{blank, within, class_of_first, class_of_tail, named, name_bytes, name_from, RunEnd, WordAt, Clean, Foreign, Ends}
+use Rattle.words.specs.declared.Class.TheVariants.{Blank, Solid, Allowed}
+use Rattle.words.specs.Words.{blank, within, name_bytes, name_from, All, WordAt, Clean, Foreign, Ends}
 
 never : (b : Bool) → b ≡ true → not b ≡ true → ⊥
 never true _ h = let z : ◌≡◌ {A = ℕ} 0 1 = cc in omega arith
@@ -45,31 +44,70 @@ module _ (text : List ℕ) (p : ℕ) where
 pub clean_not_foreign : (text : List ℕ) (s e : ℕ) → Clean text s e → Foreign text s e → ⊥
 clean_not_foreign text s e clean f = never_both (within Allowed (get_or text f.at 0)) (clean f.at f.behind f.before) f.strange
 
-pub run_leading : (k : Class) (w : List ℕ) (r : ℕ) → RunEnd k w 0 r → prefix_len (within k) w ≡ r
-run_leading k [] r h = omega (arith, h.inside)
-run_leading k (b ∷ bs) zero h = cond-false _ _ _ (h.stops (omega arith))
-run_leading k (b ∷ bs) (suc r) h =
-    let rest = run_leading k bs r (record {
-      behind = omega arith;
-      inside = omega (arith, h.inside);
-      run = λ i _ lt. h.run (suc i) (omega arith) (omega arith);
-      stops = λ lt. h.stops (omega arith);
-    }) in
-    let all : prefix_len (within k) (b ∷ bs) ≡ 1 + prefix_len (within k) bs = cond-true _ _ _ (h.run 0 (omega arith) (omega arith)) in
-    omega (arith, rest, all)
+pub rest_whole : (text : List ℕ) (from n : ℕ) → n ≡ length text - from → take n (drop from text) ≡ drop from text
+rest_whole text from n is = take_all n (drop from text) (omega (arith, length-drop from text))
 
-module _ (k : Letters) (w : List ℕ) where
-  pub name_length : (length w ≡ 0) ⊎ (8 < length w) → named k w ≡ false
-  name_length h = grind (arith, nat_tests)
+-- the bytes of a class that stand from a position on
+module _ (k : Class) (text : List ℕ) (from n : ℕ) (rest : List ℕ) (same : rest ≡ drop from text) (is : n ≡ prefix_len (within k) rest) where
+  at_rest : (i : ℕ) → get_or rest i 0 ≡ get_or text (from + i) 0
+  at_rest i = ap (λ xs. get_or xs i 0) same ∙ get_or-drop from text i 0
 
-  pub name_first : within (class_of_first k) (get_or w 0 0) ≡ false → named k w ≡ false
-  name_first h = grind (arith, nat_tests)
+  long : length rest ≡ length text - from
+  long = ap length same ∙ length-drop from text
 
-  pub name_tail : (r : ℕ) → 0 < length w → length w ≤ 8 → within (class_of_first k) (get_or w 0 0) ≡ true → RunEnd (class_of_tail k) w 0 r → eqb r (length w) ≡ named k w
-  name_tail r some short first run =
-      let a : ltb 0 (length w) ≡ true = grind (arith, nat_tests) in
-      let b : leb (length w) 8 ≡ true = grind (arith, nat_tests) in
-      rw (a, b, first) (ap (λ n. eqb n (length w)) (sym (run_leading (class_of_tail k) w r run)))
+  pub run_all : All k text from (from + n)
+  run_all i low lt =
+      subst (λ j. within k (get_or text j 0) ≡ true) (omega arith)
+      (ap (within k) (sym (at_rest (i - from))) ∙ prefix_len_passes (within k) rest (i - from) 0 (omega arith))
+
+  pub run_inside : n ≤ length text - from
+  run_inside = omega (arith, prefix_len-le-length (within k) rest, long)
+
+  pub run_stops : from + n < length text → within k (get_or text (from + n) 0) ≡ false
+  run_stops lt =
+      ap (λ j. within k (get_or text (from + j) 0)) is
+      ∙ ap (within k) (sym (at_rest (prefix_len (within k) rest)))
+      ∙ prefix_len_stops (within k) rest 0 (omega (arith, long))
+
+not_false : (b : Bool) → not b ≡ false → b ≡ true
+not_false true h = refl
+not_false false h = let z : ◌≡◌ {A = ℕ} 0 1 = cc in absurd (omega arith)
+
+-- blanks and then a run of other bytes make a word
+module _ (text : List ℕ) (at n m : ℕ) (one two : List ℕ) (is_one : one ≡ drop at text) (blanks : n ≡ prefix_len (within Blank) one) (is_two : two ≡ drop (at + n) text) (solid : m ≡ prefix_len (within Solid) two) (lt : at + n < length text) where
+  pub word_some : 0 < m
+  word_some =
+      ⊎_elim (λ h. h)
+      (λ h. let b = run_stops Blank text at n one is_one blanks lt in
+      let c = run_stops Solid text (at + n) m two is_two solid (omega (arith, lt)) in
+      absurd (never_both (blank (get_or text (at + n) 0)) (not_false _ (subst (λ j. not (blank (get_or text j 0)) ≡ false) (omega arith) c)) b))
+      (cases_lt 0 m)
+
+  pub word_at : WordAt text at (at + n) (at + n + m)
+  word_at = record {
+    behind = omega arith;
+    blanks = run_all Blank text at n one is_one blanks;
+    some = omega (arith, word_some);
+    inside = omega (arith, lt, run_inside Solid text (at + n) m two is_two solid);
+    solid = run_all Solid text (at + n) m two is_two solid;
+    longest = λ h. not_false _ (run_stops Solid text (at + n) m two is_two solid h);
+  }
+
+-- whether the bytes between two positions are all of a class
+module _ (k : Class) (text : List ℕ) (start m p r : ℕ) (same : p ≡ m) (is : r ≡ prefix_len (within k) (take p (drop start text))) where
+  piece : (i : ℕ) → i < m → get_or (take p (drop start text)) i 0 ≡ get_or text (start + i) 0
+  piece i lt = get_or-take p (drop start text) i 0 (omega arith) ∙ get_or-drop start text i 0
+
+  pub piece_all : m ≤ r → All k text start (start + m)
+  piece_all h i low lt =
+      subst (λ j. within k (get_or text j 0) ≡ true) (omega arith)
+      (ap (within k) (sym (piece (i - start) (omega arith))) ∙ prefix_len_passes (within k) (take p (drop start text)) (i - start) 0 (omega arith))
+
+  pub piece_stops : r < m → m ≤ length text - start → within k (get_or text (start + r) 0) ≡ false
+  piece_stops lt inside =
+      ap (within k) (sym (piece r lt))
+      ∙ ap (λ j. within k (get_or (take p (drop start text)) j 0)) is
+      ∙ prefix_len_stops (within k) (take p (drop start text)) 0 (omega (arith, length-take p (drop start text), length-drop start text))
 
 -- reading a name's bytes never goes past its eight
 pub take_min : (xs : List ℕ) (n m : ℕ) → length xs ≡ 8 → m ≡ min n 8 → take m xs ≡ take n xs

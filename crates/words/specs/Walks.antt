@@ -8,11 +8,14 @@
 --   First        the first number, in their order, that is met
 --   Stops        the word that is due is refused: 2 it has a foreign byte, 3 the text ends, or the first number that it meets
 --   Refused      every word in front was due and fits, and the next one that is due is refused
---   Reads        what an answer of a reader says: where it walked to, or how it was refused
+--   Halts, Leaves  the same of a reader, and where it stands then
+--   Found        what a reader answers to 'the next word', and where it stands then
+--   Reads        what an answer of a reader says: where it walked to, or how it was refused and where it stands
 --
 -- Assumes nothing.
 use Rattle.std.specs.Prelude.{◌≡◌, ℕ, zero, suc, ◌<◌, ◌≤◌, Bool, false, ◌⊎◌, List, length, Ok, Err, Result}
 use Rattle.words.specs.declared.Fault.{Fault}
+use Rattle.words.specs.declared.Reader.{Reader}
 use Rattle.words.specs.declared.Word.{Word}
 use Rattle.words.specs.Words.{WordAt, Clean, Foreign, Ends, bytes_of}
 use Rattle.words.specs.Faults.{number, position, text_limit}
@@ -32,10 +35,11 @@ WordRefused text from n at =
     ((n ≡ 3) × (at ≡ length text) × Ends text from)
     ⊎ ((n ≡ 2) × ((end : ℕ) × WordAt text from at end × Foreign text at end))
 
--- what the answer to 'the next word from a position on' says
-abbrev pub Found : List ℕ → ℕ → Result Word Fault → Type 0
-Found text from (Ok w) = WordAt text from w.start w.end × Clean text w.start w.end
-Found text from (Err f) = WordRefused text from (number f) (position f)
+-- what the answer to 'the next word' says, of a reader and of where it then stands
+abbrev pub Found : Reader → Result Word Fault → Reader → Type 0
+Found r (Ok w) s =
+    WordAt r.text.now r.at w.start s.at × Clean r.text.now w.start s.at × (w.bytes.now ≡ bytes_of r.text.now w.start s.at)
+Found r (Err f) s = WordRefused r.text.now r.at (number f) (position f) × (s.at ≡ r.at)
 
 module _ {S : Type 0} (R : Rules S) where
   abbrev pub Fits : S → List ℕ → Type 0
@@ -70,9 +74,22 @@ module _ {S : Type 0} (R : Rules S) where
       pub walks : Walks s p last from
       pub stops : Stops last from n at
 
-    abbrev pub Reads : {X : Type 0} → S → ℕ → Result X Fault → (X → S) → (X → ℕ) → Type 0
-    Reads s p (Ok x) to end = Walks s p (to x) (end x)
-    Reads s p (Err f) to end = Refused s p (number f) (position f)
+    -- where a reader stands then: where it stood, if no word could be read, or else behind the word at fault
+    pub record Halts (s : S) (p n at end : ℕ) : Type 0 where
+      pub due : R.over s ≡ false
+      pub fault :
+          (WordRefused text p n at × (end ≡ p))
+          ⊎ (WordAt text p at end × Clean text at end × First (R.meets s (bytes_of text at end)) n)
+
+    pub record Leaves (s : S) (p n at end : ℕ) : Type 0 where
+      pub last : S
+      pub from : ℕ
+      pub walks : Walks s p last from
+      pub halts : Halts last from n at end
+
+  abbrev pub Reads : {X : Type 0} → S → Reader → Result X Fault → (X → S) → Reader → Type 0
+  Reads s r (Ok x) to after = Walks r.text.now s r.at (to x) after.at
+  Reads s r (Err f) to after = Leaves r.text.now s r.at (number f) (position f) after.at
 
   -- the refusal of a whole sheet: 1 where the text is too long, else that of its words
   abbrev pub SheetRefused : List ℕ → S → ℕ → ℕ → Type 0

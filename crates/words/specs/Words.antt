@@ -4,20 +4,21 @@
 --   WordAt       the next word from a position on: a longest run of other bytes behind nothing but blanks
 --   Clean        every byte of the word is allowed;  Foreign  one is not
 --   Ends         no word stands from a position on
---   RunEnd       where a run of bytes of a class ends
 --   bytes_of     the bytes between two positions
 --   counted      the number that a count stands for, within its limits: decimal, without leading zeros
 --   named        whether a word is a name: one to eight bytes, a letter first, then letters, digits and `_`
 --   name_bytes   the bytes of a name that is kept;  name_from  how a word is kept as a name
+--   listed       the names of a list of names, each as its bytes
 --   lookup       the number under which a name was given: names are numbered from 0
 --
 -- Assumes nothing.
-use Rattle.std.specs.Prelude.{◌≡◌, ℕ, ◌+◌, ◌-◌, ◌*◌, ◌<◌, ◌≤◌, min, Bool, true, false, cond, not, ◌&&◌, ◌||◌, List, [], ◌∷◌, ◌++◌, length, take, replicate, Some, None, Option, ◌==◌, nat_le, nat_lt, slice_index, slice_range}
-use Rattle.std.specs.List.{prefix_len}
+use Rattle.std.specs.Prelude.{◌≡◌, ℕ, ◌+◌, ◌-◌, ◌*◌, ◌<◌, ◌≤◌, min, Bool, true, false, cond, not, ◌&&◌, ◌||◌, List, [], ◌∷◌, ◌++◌, length, take, replicate, map, Some, None, Option, ◌==◌, nat_le, nat_lt, slice_index, slice_range}
+use Rattle.std.specs.List.{prefix_len, position}
 use Rattle.std.specs.Str.{bytes_eq}
 use Rattle.words.specs.declared.Class.{Class}
 use Rattle.words.specs.declared.Class.TheVariants.{Blank, Solid, Allowed, Digit, Lower, Upper, LowerTail, UpperTail}
 use Rattle.words.specs.declared.Name.{Name}
+use Rattle.words.specs.declared.NameList.{NameList}
 use Rattle.words.specs.declared.Letters.{Letters}
 use Rattle.words.specs.declared.Letters.TheVariants as letters
 
@@ -62,13 +63,6 @@ pub record Foreign (text : List ℕ) (start end : ℕ) : Type 0 where
 abbrev pub Ends : List ℕ → ℕ → Type 0
 Ends text from = All Blank text from (length text)
 
--- where the run of bytes of a class that begins at a position ends
-pub record RunEnd (k : Class) (text : List ℕ) (from end : ℕ) : Type 0 where
-  pub behind : from ≤ end
-  pub inside : end ≤ length text
-  pub run : All k text from end
-  pub stops : end < length text → within k (slice_index text end) ≡ false
-
 abbrev pub bytes_of : List ℕ → ℕ → ℕ → List ℕ
 bytes_of text start end = slice_range text start end
 
@@ -105,9 +99,9 @@ name_bytes n = take n.len n.bytes
 abbrev pub name_from : List ℕ → Name
 name_from w = record { bytes = take 8 w ++ replicate (8 - length w) 0; len = min (length w) 8 }
 
--- the index of the first that passes
-abbrev pub index_by : {X : Type 0} → (X → Bool) → List X → Option ℕ
-index_by p xs = cond (nat_lt (prefix_len (λ x. not (p x)) xs) (length xs)) (Some (prefix_len (λ x. not (p x)) xs)) None
+-- the names that a list of names has
+abbrev pub listed : {most : ℕ} → NameList most → List (List ℕ)
+listed x = map name_bytes (take x.count x.names)
 
 abbrev pub lookup : List ℕ → List (List ℕ) → Option ℕ
-lookup w names = index_by (λ n. bytes_eq n w) names
+lookup w names = position (λ n. bytes_eq n w) names

@@ -18,4 +18,4 @@ moved s t old old' new new' done i p q r have =
 
 pub returns : goal.returns
 returns c =
-    moved c.open-full.result.universe.shape c.args.shape _ _ _ _ _ c.args.i c.open-full.ensures.shape c.open-full.ensures.bytes (search rules) c.fill.ensures.bytes
+    moved c.open-full.result.universe.layout.shape c.args.shape _ _ _ _ _ c.args.i c.open-full.ensures.shape c.open-full.ensures.bytes (search rules) c.fill.ensures.bytes

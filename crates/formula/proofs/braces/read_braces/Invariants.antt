@@ -1,11 +1,11 @@
-use Rattle.std.proofs.Common.{◌-◌, ◌^◌, ◌<◌, map, length}
-use Rattle.words.specs.Words.{name_bytes}
+use Rattle.std.proofs.Common.{◌≡◌, ◌-◌, ◌^◌, ◌<◌, length}
+use Rattle.words.specs.Words.{listed}
 use Rattle.words.specs.Walks.{Walks}
 use Rattle.formula.specs.Braces.{brace_rules, inside}
 use Rattle.formula.proofs.braces.read_braces.Given as goal
 
-abbrev pub invariant-words : goal.invariant-words
-invariant-words l = (l.set < 2 ^ 12) × Walks (brace_rules (map name_bytes l.actions)) l.text (inside 0) l.pos (inside l.set) l.at
+abbrev pub invariant-loop-bytes : goal.invariant-loop-bytes
+invariant-loop-bytes l = (l.set < 2 ^ 12) × (l.reader.text ≡ l.fn.reader.text) × Walks (brace_rules (listed l.actions)) l.fn.reader.text.now (inside 0) l.fn.reader.at (inside l.set) l.reader.at
 
-abbrev pub decreases-words : goal.decreases-words
-decreases-words l = length l.text - l.at
+abbrev pub decreases-loop-bytes : goal.decreases-loop-bytes
+decreases-loop-bytes l = length l.reader.text.now - l.reader.at

@@ -1,26 +1,32 @@
-use Rattle.std.proofs.Common.{◌≡◌, ◌-◌, map, length, take, refl, arith}
-use Rattle.std.proofs.lemmas.List.{take_rest}
+use Rattle.std.proofs.Common.{[], length, sym, ap, ◌∙◌, refl}
+use lib.ListN.{length-map}
 use Rattle.std.proofs.lemmas.Result.{err_from_is_err_and}
 use Rattle.words.specs.Words.{name_bytes}
-use Rattle.formula.proofs.SheetReadings.{cut_names, read_into, untouched}
+use Rattle.formula.proofs.SheetReadings.{sheet_fails, part_fails, sheet_made}
 use Rattle.formula.proofs.reader.read_formula.Goals as goal
 
-pub returns-in_err-formula : goal.returns-in_err-formula
-returns-in_err-formula c =
+pub returns-in_err-variables : goal.returns-in_err-variables
+returns-in_err-variables c =
     let p = err_from_is_err_and c.from_residual.result c.from_residual.ensures.1 in
-    let v = c.args.vocabulary.now in
-    let many-actions : length v.actions ≡ 12 = omega arith in
-    let many-properties : length v.properties ≡ 16 = omega arith in
-    let actions = cut_names v.actions v.action_count c.min-actions.result 12 many-actions c.min-actions.ensures in
-    let properties = cut_names v.properties v.property_count c.min-properties.result 16 many-properties c.min-properties.ensures in
     rw (p.1, p.2)
-    (untouched c.args.text.now v c.args.place.now _ (map name_bytes (take (c.min-actions.result - 0) v.actions)) (map name_bytes (take (c.min-properties.result - 0) v.properties)) actions properties _ _ c.in_err-formula.ensures refl)
+    (sheet_fails c.args.vocabulary.now (record { text = c.args.text; at = 0 }) refl c.if-text-gt-LONGEST.false c.args.place.now _ _ c.read_variables.new.reader.at c.in_err-variables.ensures.reads)
+
+pub returns-in_err-read_part : goal.returns-in_err-read_part
+returns-in_err-read_part c =
+    let p = err_from_is_err_and c.from_residual-in_err-read_part.result c.from_residual-in_err-read_part.ensures.1 in
+    let v = c.args.vocabulary.now in
+    let x = c.in_ok-variables.variables in
+    let m = c.read_variables.new.reader in
+    let after = c.read_part.new.reader in
+    rw (p.1, p.2)
+    (part_fails v (record { text = c.args.text; at = 0 }) refl c.if-text-gt-LONGEST.false x c.in_ok-variables.ensures.kept m c.in_ok-variables.ensures.same c.in_ok-variables.ensures.reads c.args.place.now c.new-arena.result _ _ after c.new-arena.ensures (c.in_err-read_part.ensures.reads []))
 
 pub returns : goal.returns
 returns c =
     let v = c.args.vocabulary.now in
-    let many-actions : length v.actions ≡ 12 = omega arith in
-    let many-properties : length v.properties ≡ 16 = omega arith in
-    let actions = cut_names v.actions v.action_count c.min-actions.result 12 many-actions c.min-actions.ensures in
-    let properties = cut_names v.properties v.property_count c.min-properties.result 16 many-properties c.min-properties.ensures in
-    read_into c.args.text.now v c.args.place.now _ (map name_bytes (take (c.min-actions.result - 0) v.actions)) (map name_bytes (take (c.min-properties.result - 0) v.properties)) actions properties c.in_ok-formula.field-0 c.in_ok-formula.ensures refl _ (take_rest c.args.text.now c.in_ok-formula.field-0.end)
+    let x = c.in_ok-variables.variables in
+    let m = c.read_variables.new.reader in
+    let after = c.read_part.new.reader in
+    sheet_made v (record { text = c.args.text; at = 0 }) refl c.if-text-gt-LONGEST.false x c.in_ok-variables.ensures.kept m c.in_ok-variables.ensures.same c.in_ok-variables.ensures.reads
+    c.args.place.now c.new-arena.result c.read_part.new.arena _ _ _ _ after _ c.new-arena.ensures (c.in_ok-read_part.ensures.reads [])
+    c.cells.ensures c.used.ensures.value (ap length c.as_slice.ensures ∙ sym (length-map _ name_bytes)) (ap length c.as_slice-2.ensures ∙ sym (length-map _ name_bytes)) c.in_ok-read_part.ensures.same c.rest.ensures

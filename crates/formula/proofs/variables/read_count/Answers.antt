@@ -1,24 +1,37 @@
-use Rattle.std.proofs.Common.{◌*◌, ◌<◌, ◌≤◌, sym, refl, subst}
+use Rattle.std.proofs.Common.{◌*◌, ◌<◌, ◌≤◌, ap, ◌∙◌, refl, sym, subst, length}
+use lib.ListN.{length-map}
 use Rattle.std.proofs.lemmas.Result.{err_from_is_err_and}
-use Rattle.formula.specs.Rules.{formula_rules, formula_start}
-use Rattle.formula.proofs.Steps.{no_word}
+use Rattle.words.specs.Words.{listed, counted, name_bytes}
+use Rattle.words.proofs.Readers.{no_word, ok_or_some}
+use Rattle.formula.specs.Rules.{formula_start}
+use Rattle.formula.specs.Reading.{rules_of}
+use Rattle.formula.proofs.Steps.{stops_none}
 use Rattle.formula.proofs.NameWalks.{count_bad, count_many, count_goes}
 use Rattle.formula.proofs.variables.read_count.Goals as goal
 
-pub returns-in_err-start : goal.returns-in_err-start
-returns-in_err-start c =
+pub returns-in_err-word-clause-reads : goal.returns-in_err-word-clause-reads
+returns-in_err-word-clause-reads c =
     let p = err_from_is_err_and c.from_residual.result c.from_residual.ensures.1 in
+    rw (p.1, p.2) (no_word (rules_of c.args.vocabulary.now) formula_start c.args.reader.now c.word.new.self refl _ c.in_err-word.ensures.found)
+
+pub returns-in_err-count-clause-reads : goal.returns-in_err-count-clause-reads
+returns-in_err-count-clause-reads c =
+    let p = err_from_is_err_and c.from_residual-in_err-count.result c.from_residual-in_err-count.ensures.1 in
+    let found = c.in_ok-word.ensures.found in
     rw (p.1, p.2)
-    (record { reads = λ actions properties is. no_word (formula_rules actions properties) c.args.text.now formula_start 0 refl _ _ c.in_err-start.ensures.found; range = tt })
+    (stops_none (rules_of c.args.vocabulary.now) c.args.reader.now.text.now formula_start c.args.reader.now.at _ _ _ c.in_err-count.ensures.value c.word.new.self.at
+    (λ none. count_bad (listed c.args.vocabulary.now.actions) (listed c.args.vocabulary.now.properties) c.args.reader.now.text.now c.args.reader.now.at _ _ (found.0, found.1) (none ∙ ap (λ b. counted b 0 4) found.2)))
 
-pub returns-in-None : goal.returns-in-None
-returns-in-None c =
-    record { reads = λ actions properties is. count_bad actions properties c.args.text.now 0 _ _ c.in_ok-start.ensures.found c.in-None.ensures.value; range = tt }
+pub returns-then-as_slice-count-gt-MOST_BITS-clause-reads : goal.returns-then-as_slice-count-gt-MOST_BITS-clause-reads
+returns-then-as_slice-count-gt-MOST_BITS-clause-reads c =
+    let found = c.in_ok-word.ensures.found in
+    let count = sym (ok_or_some _ _ _ c.in_ok-count.ensures.value) ∙ ap (λ b. counted b 0 4) found.2 in
+    let many = ap length c.as_slice.ensures ∙ sym (length-map _ name_bytes) in
+    count_many (listed c.args.vocabulary.now.actions) (listed c.args.vocabulary.now.properties) c.args.reader.now.text.now c.args.reader.now.at _ _ (found.0, found.1) c.in_ok-count.count count (subst (λ n. 12 < n * c.in_ok-count.count) many c.if-as_slice-count-gt-MOST_BITS.true)
 
-pub returns-then-actions-count-gt-MOST_BITS : goal.returns-then-actions-count-gt-MOST_BITS
-returns-then-actions-count-gt-MOST_BITS c =
-    record { reads = λ actions properties is. count_many actions properties c.args.text.now 0 _ _ c.in_ok-start.ensures.found c.in-Some.count c.in-Some.ensures.value (subst (λ m. 12 < m * c.in-Some.count) (sym is) c.if-actions-count-gt-MOST_BITS.true); range = tt }
-
-pub returns-else-actions-count-gt-MOST_BITS : goal.returns-else-actions-count-gt-MOST_BITS
-returns-else-actions-count-gt-MOST_BITS c =
-    record { reads = λ actions properties is. count_goes actions properties c.args.text.now 0 _ _ c.in_ok-start.ensures.found c.in-Some.count c.in-Some.ensures.value (subst (λ m. m * c.in-Some.count ≤ 12) (sym is) c.if-actions-count-gt-MOST_BITS.false); range = c.in-Some.ensures.range.1 }
+pub returns-clause-reads : goal.returns-clause-reads
+returns-clause-reads c =
+    let found = c.in_ok-word.ensures.found in
+    let count = sym (ok_or_some _ _ _ c.in_ok-count.ensures.value) ∙ ap (λ b. counted b 0 4) found.2 in
+    let many = ap length c.as_slice.ensures ∙ sym (length-map _ name_bytes) in
+    count_goes (listed c.args.vocabulary.now.actions) (listed c.args.vocabulary.now.properties) c.args.reader.now.text.now c.args.reader.now.at _ _ (found.0, found.1) c.in_ok-count.count count (subst (λ n. n * c.in_ok-count.count ≤ 12) many c.if-as_slice-count-gt-MOST_BITS.false)

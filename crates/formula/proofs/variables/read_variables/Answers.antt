@@ -1,26 +1,20 @@
-use Rattle.std.proofs.Common.{◌≡◌, arith}
+use Rattle.std.proofs.Common.{◌≡◌, ◌+◌, ◌<◌, set, ◌∙◌, arith}
 use Rattle.std.proofs.lemmas.Result.{err_from_is_err_and}
-use Rattle.formula.proofs.NameWalks.{names_none, names_fail, names_more, names_all, names_canonical}
+use Rattle.std.proofs.lemmas.Bool.{cond-true, lt-ltb}
+use Rattle.formula.proofs.NameWalks.{names_fail, names_more}
 use Rattle.formula.proofs.variables.read_variables.Goals as goal
 
-pub loop-i-init : goal.loop-i-init
-loop-i-init c =
-    names_none c.args.actions c.args.text.now c.in_ok-count.field-0.count c.in_ok-count.field-0.end c.in_ok-count.ensures.range c.in_ok-count.ensures.reads
-
-pub returns-in_err-name : goal.returns-in_err-name
-returns-in_err-name c =
+pub returns-in_err-name-clause-reads : goal.returns-in_err-name-clause-reads
+returns-in_err-name-clause-reads c =
     let p = err_from_is_err_and c.from_residual-in_err-name.result c.from_residual-in_err-name.ensures.1 in
     rw (p.1, p.2)
-    (record { reads = names_fail c.args.actions c.args.text.now c.in_ok-count.field-0.count c.loop-i.i c.loop-i.names c.loop-i.at c.loop-i.invariant c.loop-i-test.true _ _ c.in_err-name.ensures.reads; range = tt })
+    (names_fail c.args.vocabulary.now c.args.reader.now c.in_ok-count.count c.loop.counter c.loop.variables c.loop.reader c.loop.invariant c.loop-test.true c.as_slice.result.now c.as_slice.ensures _ _ c.read_name.new.reader c.in_err-name.ensures.reads)
 
-pub loop-i-preserved : goal.loop-i-preserved
-loop-i-preserved c =
-    names_more c.args.actions c.args.text.now c.in_ok-count.field-0.count c.loop-i.i c.loop-i.names c.loop-i.at c.loop-i.invariant c.loop-i-test.true c.in_ok-name.field-0.name c.in_ok-name.field-0.end c.in_ok-name.ensures.range c.in_ok-name.ensures.reads
-
-pub returns : goal.returns
-returns c =
-    let all : c.loop-i.i ≡ c.in_ok-count.field-0.count = omega (arith, c.loop-i.auto, c.loop-i-test.false) in
-    record {
-      reads = names_all c.args.actions c.args.text.now c.in_ok-count.field-0.count c.loop-i.i c.loop-i.names c.loop-i.at c.loop-i.invariant all;
-      range = names_canonical c.args.actions c.args.text.now c.in_ok-count.field-0.count c.loop-i.i c.loop-i.names c.loop-i.at c.loop-i.invariant all;
-    }
+pub loop-preserved : goal.loop-preserved
+loop-preserved c =
+    let x = c.loop.variables in
+    let few = c.loop.invariant.few in
+    let room : x.count < 4 = omega (arith, few, c.loop.invariant.given, c.loop-test.true) in
+    let more : c.push.new.self ≡ record { names = set x.names x.count c.in_ok-name.name; count = x.count + 1 } =
+    λ i. record { names = c.push.ensures.names i; count = (c.push.ensures.count ∙ cond-true _ _ _ (lt-ltb x.count 4 room)) i } in
+    rw more (names_more c.args.vocabulary.now c.args.reader.now c.in_ok-count.count c.loop.counter c.loop.variables c.loop.reader c.loop.invariant c.loop-test.true c.as_slice.result.now c.as_slice.ensures c.in_ok-name.name c.read_name.new.reader c.in_ok-name.ensures.range c.in_ok-name.ensures.same c.in_ok-name.ensures.reads)

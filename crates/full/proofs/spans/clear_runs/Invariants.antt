@@ -1,7 +1,6 @@
-use Rattle.std.proofs.Common.{◌*◌, ◌/◌, ◌%◌, eqb}
-use Rattle.full.specs.Passes.{MergedSpan}
-use Rattle.full.specs.declared.spans.Op.TheVariants.{Meet}
+use Rattle.std.proofs.Common.{◌*◌}
+use Rattle.full.proofs.Runs.{Kept}
 use Rattle.full.proofs.spans.clear_runs.Given as goal
 
 abbrev pub invariant-loop-q : goal.invariant-loop-q
-invariant-loop-q l = MergedSpan Meet l.initial.cells l.cells l.at (l.q * (2 * l.run)) (λ x m. eqb (x / l.run % 2) 1)
+invariant-loop-q l = Kept l.initial.span l.span l.run (l.q * (2 * l.run))

@@ -1,16 +1,16 @@
-use Rattle.std.proofs.Common.{◌≡◌, ℕ, ◌-◌, ◌<◌, ◌≤◌}
-use Rattle.store.specs.Frames.{frame_codes}
-use Rattle.store.specs.Calls.{set_and_start}
+use Rattle.std.proofs.Common.{ℕ, ◌<◌, ◌≤◌}
+use Rattle.members.specs.Listed.{ListsFrom}
 use Rattle.members.specs.Minimal.{Minimal}
 use Rattle.members.proofs.minimal.least.Given as goal
 
+-- what is left are the members from a code on, and below it there is none that includes no other
 abbrev pub invariant-loop-c : goal.invariant-loop-c
 invariant-loop-c g l =
-    let s = g.S.Store in
-    let f = s.frame l.store in
-    (l.from ≤ l.at)
-    × (set_and_start f l.i l.at ≡ set_and_start f l.i l.from)
-    × ((d : ℕ) → l.from ≤ d → d < l.at → Minimal f.actions f.variables (s.sets l.store l.i) d → ⊥)
-
-abbrev pub decreases-loop-c : goal.decreases-loop-c
-decreases-loop-c g l = frame_codes (g.S.Store.frame l.store) - l.at
+    let f = g.S.Store.frame l.store in
+    let m = g.S.Store.sets l.store l.i in
+    (goal.iterator-loop-c g).can_next l.c-iterator
+    × (goal.iterator-loop-c g).is_finite l.c-iterator
+    × (at : ℕ)
+    × (l.from ≤ at)
+    × ListsFrom m at l.c-iterator
+    × ((d : ℕ) → l.from ≤ d → d < at → Minimal f.actions f.variables m d → ⊥)

@@ -1,33 +1,17 @@
-use Rattle.std.proofs.Common.{Some, arith}
-use Rattle.members.proofs.Firsts.{smallest_more}
-use Rattle.members.proofs.Walking.{Told, told}
-use Rattle.members.proofs.smallest.smallest.Given as given
+use Rattle.std.proofs.Common.{rules, refl, arith, pow_mono}
+use Rattle.store.specs.Calls.{one_set}
+use Rattle.store.proofs.Refusals.{ok_answers, answers_ok}
+use Rattle.members.specs.Numbers.{Lists}
+use Rattle.members.specs.Smallest.{Smallest}
+use Rattle.members.proofs.Firsts.{smallest_listed}
 use Rattle.members.proofs.smallest.smallest.Goals as goal
-use Rattle.members.proofs.smallest.smallest.Goals.{In-Some}
 
-step : (g : given.Over) (c : In-Some g) → Told (g.S.Store.frame c.args.store.now) (g.S.Store.sets c.args.store.now c.args.i) c.args.i c.loop-c.from (Some c.in-Some.c)
-step g c =
+pub returns : goal.returns
+returns g c =
     let s = c.args.store.now in
-    told (g.S.Store.frame s) (g.S.Store.sets s c.args.i) c.args.i c.loop-c.from (g.S.Store.sound s) c.in_ok-c.field-0 (Some c.in-Some.c) c.in-Some.is c.in_ok-c.ensures
-
-pub overflow_add-from : goal.overflow_add-from
-overflow_add-from g c =
-    let t = step g (goal.at.overflow_add-from g c).In-Some in
-    let below = g.S.Store.coded c.args.store.now c.args.i c.in-Some.c t.least.1 in
-    omega (arith, t.most)
-
-pub loop-c-smaller : goal.loop-c-smaller
-loop-c-smaller g c =
-    let h = (step g (goal.at.loop-c-smaller g c).In-Some).least in
-    let low = h.0 in
-    let below = g.S.Store.coded c.args.store.now c.args.i c.in-Some.c h.1 in
-    omega arith
-
-pub loop-c-preserved : goal.loop-c-preserved
-loop-c-preserved g c =
-    let s = c.args.store.now in
-    let h = (step g (goal.at.loop-c-preserved g c).In-Some).least in
-    let below = g.S.Store.coded s c.args.i c.in-Some.c h.1 in (
-      omega arith,
-      smallest_more (g.S.Store.sets s c.args.i) c.loop-c.from c.in-Some.c c.earlier.result c.loop-c.first h c.loop-c.invariant.1 c.earlier.ensures,
-    )
+    let f = g.S.Store.frame s in
+    let m = g.S.Store.sets s c.args.i in
+    let cs = c.in_ok-members_of.field-0 in
+    let found = ok_answers cs (Lists m) (one_set f c.args.i) c.in_ok-members_of.ensures in
+    answers_ok c.min_by_key.result (Smallest m) (one_set f c.args.i) found.0
+    (smallest_listed m cs found.1 (λ d here. omega (arith, g.S.Store.coded s c.args.i d here, pow_mono (g.S.Store.sound s).limits.bits_most)) _ (tt {0}) (λ a r q k. refl) (λ x k h. search rules) c.min_by_key.result c.min_by_key.ensures.runs)

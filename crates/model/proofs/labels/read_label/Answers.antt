@@ -1,48 +1,40 @@
-use Rattle.std.proofs.Common.{◌<◌, false, [], get_or, sym, ap, ◌∙◌, arith}
+use Rattle.std.proofs.Common.{◌<◌, false, [], Err, get_or, sym, ap, ◌∙◌, arith}
 use Rattle.std.proofs.lemmas.Result.{err_from_is_err_and}
-use Rattle.model.proofs.LabelWords.{label_unnamed, label_half_unnamed, label_taken, label_read}
+use Rattle.model.proofs.LabelWords.{no_property, property_unnamed, label_taken, label_read}
+use Rattle.model.proofs.Looks.{label_state_reads}
 use Rattle.model.proofs.labels.read_label.Goals as goal
 
-pub returns-in_err-state : goal.returns-in_err-state
-returns-in_err-state c =
+pub returns-in_err-state-clause-reads : goal.returns-in_err-state-clause-reads
+returns-in_err-state-clause-reads c =
     let p = err_from_is_err_and c.from_residual.result c.from_residual.ensures.1 in
-    rw (p.1, p.2) (record {
-      reads = λ d m ss ps same. label_unnamed c.args.text.now c.args.from d m c.args.states.now ss _ c.in_err-state.ensures.found;
-      range = tt;
-    })
+    rw (p.1, p.2) (λ d m ss ps same. label_state_reads d c.args.reader.now c.number_in.new.self _ (Err c.in_err-state.field-0.0) c.in_err-state.ensures.looks_up m ss)
 
-pub returns-in_err-property : goal.returns-in_err-property
-returns-in_err-property c =
+pub returns-in_err-word-clause-reads : goal.returns-in_err-word-clause-reads
+returns-in_err-word-clause-reads c =
+    let p = err_from_is_err_and c.from_residual-in_err-word.result c.from_residual-in_err-word.ensures.1 in
+    let one = c.in_ok-state.ensures in
+    rw (p.1, p.2) (λ d m ss ps same. no_property d m _ _ ss ps c.args.reader.now c.number_in.new.self c.in_ok-state.state one.same one.looks_up c.word.new.self _ c.in_err-word.ensures.found)
+
+pub returns-in_err-property-clause-reads : goal.returns-in_err-property-clause-reads
+returns-in_err-property-clause-reads c =
     let p = err_from_is_err_and c.from_residual-in_err-property.result c.from_residual-in_err-property.ensures.1 in
-    rw (p.1, p.2) (record {
-      reads = λ d m ss ps same. label_half_unnamed c.args.text.now c.args.from d m c.args.states.now c.args.properties.now ss ps c.in_ok-state.field-0 c.in_ok-state.ensures.found _ c.in_err-property.ensures.found;
-      range = tt;
-    })
+    let one = c.in_ok-state.ensures in
+    rw (p.1, p.2) (λ d m ss ps same. property_unnamed d m _ _ ss ps c.args.reader.now c.number_in.new.self c.in_ok-state.state one.same one.looks_up c.word.new.self c.in_ok-word.word c.in_ok-word.ensures.found _ c.in_err-property.ensures.value)
 
-pub returns-then-rows-state : goal.returns-then-rows-state
-returns-then-rows-state c =
-    let x = c.in_ok-state.field-0 in
-    let y = c.in_ok-property.field-0 in
-    let fx = c.in_ok-state.ensures in
-    let fy = c.in_ok-property.ensures in
-    let inside : x.number < 64 = omega (arith, fx.range.0, c.requires.states) in
-    let inside' : y.number < 16 = omega (arith, fy.range.0, c.requires.properties) in
-    record {
-      reads = λ d m ss ps same. label_taken c.args.text.now c.args.from d m c.args.states.now c.args.properties.now ss ps x fx.found y fy.found inside inside'
-          (ap (λ rows. get_or (get_or rows x.number []) y.number false) (sym same) ∙ c.if-rows-state.true);
-      range = tt;
-    }
+pub returns-then-rows-state-clause-reads : goal.returns-then-rows-state-clause-reads
+returns-then-rows-state-clause-reads c =
+    let one = c.in_ok-state.ensures in
+    let s = c.in_ok-state.state in
+    let p = c.in_ok-property.property in
+    let inside : s < 64 = omega (arith, one.range, c.requires.states) in
+    let inside' : p < 16 = omega (arith, c.in_ok-property.ensures.range, c.requires.properties) in
+    λ d m ss ps same. label_taken d m _ _ ss ps c.args.reader.now c.number_in.new.self s one.same one.looks_up c.word.new.self c.in_ok-word.word c.in_ok-word.ensures.found p c.in_ok-property.ensures.value inside inside' (ap (λ rows. get_or (get_or rows s []) p false) (sym same) ∙ c.if-rows-state.true)
 
-pub returns : goal.returns
-returns c =
-    let x = c.in_ok-state.field-0 in
-    let y = c.in_ok-property.field-0 in
-    let fx = c.in_ok-state.ensures in
-    let fy = c.in_ok-property.ensures in
-    let inside : x.number < 64 = omega (arith, fx.range.0, c.requires.states) in
-    let inside' : y.number < 16 = omega (arith, fy.range.0, c.requires.properties) in
-    record {
-      reads = λ d m ss ps same. label_read c.args.text.now c.args.from d m c.args.states.now c.args.properties.now ss ps x fx.found y fy.found inside inside'
-          (ap (λ rows. get_or (get_or rows x.number []) y.number false) (sym same) ∙ c.if-rows-state.false);
-      range = (inside, inside', fy.range.1);
-    }
+pub returns-clause-reads : goal.returns-clause-reads
+returns-clause-reads c =
+    let one = c.in_ok-state.ensures in
+    let s = c.in_ok-state.state in
+    let p = c.in_ok-property.property in
+    let inside : s < 64 = omega (arith, one.range, c.requires.states) in
+    let inside' : p < 16 = omega (arith, c.in_ok-property.ensures.range, c.requires.properties) in
+    λ d m ss ps same. label_read d m _ _ ss ps c.args.reader.now c.number_in.new.self s one.same one.looks_up c.word.new.self c.in_ok-word.word c.in_ok-word.ensures.found p c.in_ok-property.ensures.value inside inside' (ap (λ rows. get_or (get_or rows s []) p false) (sym same) ∙ c.if-rows-state.false)

@@ -1,11 +1,9 @@
 use Rattle.std.proofs.Common.{◌≡◌, ℕ, List, map, length, sym, ap, ◌∙◌}
-use Rattle.std.specs.List.{flat_map}
 use Rattle.store.specs.Frames.{frame_codes}
 use Rattle.store.specs.Calls.{one_set}
 use Rattle.store.proofs.Refusals.{ok_answers}
 use Rattle.words.specs.Words.{name_bytes}
 use Rattle.members.specs.Numbers.{number}
-use Rattle.report.specs.Lines.{variable_names}
 use Rattle.report.specs.Listings.{below}
 use Rattle.report.specs.Texts.{heading, code_line}
 use Rattle.report.proofs.Laying.{lays_then, lays_same}
@@ -22,10 +20,10 @@ returns g c =
     let u = g.S.Store.sets s 0 in
     let held = (ok_answers c.in_ok-held.held (λ k. k ≡ number m n) (one_set f c.args.set) c.in_ok-held.ensures).1 ∙ sym (length_below m n) in
     let all = (ok_answers c.in_ok-all.all (λ k. k ≡ number u n) (one_set f 0) c.in_ok-all.ensures).1 ∙ sym (length_below u n) in
-    let text : ℕ → List ℕ = code_line (map name_bytes c.args.actions.now) (variable_names c.args.formula.now) in
+    let text : ℕ → List ℕ = code_line (map name_bytes c.args.names.now.actions.now) (map name_bytes c.args.names.now.variables.now) in
     cases_to c.put_codes.result _ _
-    (λ k lays.
-    lays_then c.args.mark c.args.out.now (heading (length (below m n)) (length (below u n)) c.args.rounds) c.put_heading-behind.result c.put_heading-behind.new.out (flat_map text (below m n)) k c.put_codes.new.out
-    (lays_same _ _ _ _ _ _ (ap (λ h. heading h c.in_ok-all.all c.args.rounds) held ∙ ap (λ a. heading (length (below m n)) a c.args.rounds) all) c.put_heading-behind.ensures)
+    (λ _ lays.
+    lays_then
+    (lays_same (ap (λ h. heading h c.in_ok-all.all c.args.rounds) held ∙ ap (λ a. heading (length (below m n)) a c.args.rounds) all) c.put_heading.ensures)
     lays)
     c.put_codes.ensures
