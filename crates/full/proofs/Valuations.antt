@@ -1,5 +1,7 @@
 -- The bytes of the set of all valuations, laid down bit by bit and byte by byte.
-use Rattle.std.proofs.Common.{◌≡◌, ℕ, zero, suc, ◌+◌, ◌-◌, ◌*◌, ◌/◌, ◌%◌, ◌^◌, ◌<◌, ◌≤◌, Bool, false, eqb, List, length, get_or, set, replicate, sym, refl, ap, ◌∙◌, inr, ⊎_elim, arith, get_or-set_other, get_or-set_same, pow_mono, pow-add}
+use Rattle.std.proofs.Common.{◌≡◌, ℕ, zero, suc, ◌+◌, ◌-◌, ◌*◌, ◌/◌, ◌%◌, ◌^◌, ◌<◌, ◌≤◌, Bool, true, false, cond, eqb, List, [], ◌∷◌, ◌++◌, length, length-append, get_or, set, replicate, sym, refl, ap, ◌∙◌, subst, inr, ⊎_elim, arith, get_or-set_other, get_or-set_same, pow_mono, pow-add}
+use Rattle.std.proofs.Math.ListN.{get_or-append}
+use Rattle.std.proofs.Math.Seq.{get_or-append_seam}
 use Rattle.std.proofs.lemmas.Bool.{cases_eq, cases_lt, le-ltb, and_left}
 use Rattle.logic.specs.Codes.{bit, valuation}
 use Rattle.full.specs.Bytes.{width, bit_from}
@@ -22,6 +24,29 @@ byte_more f x b r t lt small have two is =
           ap (bit (r * 2 + t)) up ∙ bit_rest r t (m - 1) two ∙ have (m - 1) (omega arith) ∙ ap (λ n. f (8 * x + n)) (omega arith))
           (cases_eq m 0),
     )
+
+-- the byte that the numbers from 0 on build, whichever they are so far
+abbrev pub Built : (ℕ → Bool) → ℕ → List ℕ → ℕ → Type 0
+Built f x ys r = ((k : ℕ) → k < length ys → get_or ys k 0 ≡ k) → length ys ≤ 8
+    → (r < 2 ^ length ys) × ((m : ℕ) → m < length ys → bit r m ≡ f (8 * x + (8 - length ys + m)))
+
+pub built_none : (f : ℕ → Bool) (x : ℕ) → Built f x [] 0
+built_none f x rising few = (omega arith, λ m m<. absurd (omega arith))
+
+one_if : (v : Bool) → (cond v 1 0 < 2) × (eqb (cond v 1 0) 1 ≡ v)
+one_if true = (omega arith, refl)
+one_if false = (omega arith, refl)
+
+pub built_more : (f : ℕ → Bool) (x : ℕ) (ys : List ℕ) (r b : ℕ) → Built f x ys r → Built f x (ys ++ (b ∷ [])) (r % 128 * 2 + cond (f (8 * x + (7 - b))) 1 0)
+built_more f x ys r b have rising few =
+    let n = length ys in
+    let next = r % 128 * 2 + cond (f (8 * x + (7 - b))) 1 0 in
+    let long : length (ys ++ (b ∷ [])) ≡ n + 1 = length-append ys (b ∷ []) in
+    let last : b ≡ n = sym (get_or-append_seam ys b [] 0) ∙ rising n (omega arith) in
+    let inv = have (λ k h. sym (get_or-append ys (b ∷ []) 0 k h) ∙ rising k (omega arith)) (omega arith) in
+    let bit_b = one_if (f (8 * x + (7 - b))) in
+    let P : ℕ → Type 0 = λ l. (next < 2 ^ l) × ((m : ℕ) → m < l → bit next m ≡ f (8 * x + (8 - l + m))) in
+    subst P (sym long) (byte_more f x n r (cond (f (8 * x + (7 - b))) 1 0) (omega arith) inv.0 inv.1 bit_b.0 (bit_b.1 ∙ ap (λ v. f (8 * x + (7 - v))) last))
 
 -- one byte more
 pub laid_more : (f : ℕ → Bool) (bytes : List ℕ) (x v : ℕ) → x < length bytes → ((k m : ℕ) → k < x → m < 8 → bit (get_or bytes k 0) m ≡ f (8 * k + m))

@@ -1,6 +1,6 @@
 -- The bytes of sets, side by side: which set a byte is of, and which of a set's bits are codes.
 use Rattle.std.proofs.Common.{◌≡◌, ℕ, ◌+◌, ◌-◌, ◌*◌, ◌/◌, ◌%◌, ◌^◌, ◌<◌, ◌≤◌, ◌⊎◌, ap, ◌∙◌, inl, inr, ⊎_elim, add-mul, one-mul, arith, pow_mono, pow-add}
-use Rattle.std.proofs.lemmas.Nat.{div-add-mod', mul-le, one_shl, pow_pos}
+use Rattle.std.proofs.lemmas.Nat.{div-add-mod', mul-le, one_shl}
 use Rattle.std.proofs.lemmas.Bool.{cases_lt, cond-true, cond-false, le-leb, lt-leb}
 use Rattle.full.specs.Bytes.{width}
 use Rattle.full.proofs.Runs.{whole_runs}
@@ -23,9 +23,6 @@ codes_fit n = ⊎_elim (λ h. omega arith) (λ h. omega arith) (codes_of_width n
 pub code_within : (n c : ℕ) → c < 2 ^ n → c / 8 < width n
 code_within n c h = let fit = codes_fit n in omega arith
 
-pub width_some : (n : ℕ) → 1 ≤ width n
-width_some n = let fit = codes_fit n in omega (arith, pow_pos n)
-
 pub next_start : (i j w : ℕ) → i < j → i * w + w ≤ j * w
 next_start i j w h =
     let a : (i + 1) * w ≤ j * w = mul-le (i + 1) w j w (omega arith) (omega arith) in
@@ -41,14 +38,6 @@ sets_apart i j w x ne h =
     ⊎_elim
     (λ below. inl (omega (arith, next_start j i w below)))
     (λ above. inr (omega (arith, next_start i j w (let lt : i < j = omega arith in lt))))
-    (cases_lt j i)
-
--- a set that starts below another ends there
-pub starts_apart : (i j w : ℕ) → j * w < i * w → j * w + w ≤ i * w
-starts_apart i j w lt =
-    ⊎_elim
-    (λ below. next_start j i w below)
-    (λ above. let h : i * w ≤ j * w = mul-le i w j w above (omega arith) in absurd (omega arith))
     (cases_lt j i)
 
 -- the bytes of a set are whole runs of the bit b

@@ -17,14 +17,12 @@ pub(crate) fn lay(layout: &Layout) -> [u8; 512]
     bytes
 }
 
-// The byte x of the set of all valuations.
+// The byte x of the set of all valuations, from its highest bit on.
 fn valuation_byte(shape: Shape, x: usize) -> u8
     requires { x < 512 }
     ensures { (m : ℕ) → m < 8 → bit result m ≡ valuation (shape_actions shape) (shape_variables shape) (8 * x + m) }
 {
-    let mut byte = 0u8;
-    for b in 0..8 {
-        byte = (byte % 128) * 2 + u8::from(shape.is_valuation(8 * x + (7 - b)));
-    }
-    byte
+    (0..8).fold(0, |byte, b| {
+        (byte % 128) * 2 + u8::from(shape.is_valuation(8 * x + (7 - b)))
+    })
 }

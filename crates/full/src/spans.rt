@@ -3,7 +3,7 @@ ghost use Rattle.std.specs.Prelude.{◌≡◌, ℕ, ◌-◌, ◌*◌, ◌+◌, �
 ghost use Rattle.logic.specs.Codes.{bit};
 ghost use Rattle.full.specs.Passes.{Merged};
 
-// Merges the bytes of another span into those of a span.
+// Merges the bytes of another span into those of a span. After a zip over `iter_mut` a proof knows the length alone.
 pub(crate) fn merge<F: Fn(u8, u8) -> u8>(span: &mut [u8], source: &[u8], by: F)
     requires call { F.IsAlwaysCallable by }
     requires long { length span.old ≤ length source.now }
@@ -35,7 +35,7 @@ fn keep_bytes(span: &mut [u8], k: usize)
     }
 }
 
-// Clears every other run of bytes, from the first on.
+// Clears every other run of bytes, from the first on. After `chunks_exact_mut` a proof knows the length alone.
 fn clear_runs(span: &mut [u8], run: usize, pairs: usize)
     requires whole { pairs * (2 * run) ≡ length span.old }
     requires some { (1 ≤ run) × (run ≤ 256) }
