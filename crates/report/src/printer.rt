@@ -2,8 +2,6 @@
 ghost use Rattle.std.specs.Prelude.{◌≡◌, [], ◌∷◌, decimal};
 ghost use Rattle.report.specs.Printers.{Lays};
 
-use itoa::Buffer;
-
 // Where a report does not fit, its answer speaks of the whole report: so the count goes on to the end, and no call fails.
 // Lines are methods and no `write!`, which promises nothing of a text that it does not write whole.
 #[derive(Drop)]
@@ -46,11 +44,14 @@ impl<'a> Printer<'a> {
         }
     }
 
-    // The number in decimal.
+    // The number in decimal: its last digit stands behind the digits of the rest. By hand, so that the digits are proved here.
     pub(crate) fn put_number(&mut self, n: usize)
         ensures { Lays self.old (decimal n) self.new }
     {
-        let mut buffer = Buffer::new();
-        self.put_bytes(buffer.format(n).as_bytes());
+        if n < 10 {
+            return self.put(b'0' + n as u8);
+        }
+        self.put_number(n / 10);
+        self.put(b'0' + (n % 10) as u8);
     }
 }
