@@ -1,8 +1,8 @@
 -- The bytes of a set that others are merged into, byte by byte.
-use Rattle.std.proofs.Common.{◌≡◌, ℕ, zero, suc, ◌+◌, ◌-◌, ◌*◌, ◌/◌, ◌%◌, ◌^◌, ◌<◌, ◌≤◌, Bool, true, false, cond, not, ◌&&◌, ◌||◌, eqb, List, length, get_or, set, refl, sym, ap, ◌∙◌, ⊎_elim, zero-add, arith, get_or-set_other, get_or-set_same}
+use Rattle.std.proofs.Common.{◌≡◌, ℕ, zero, suc, ◌+◌, ◌-◌, ◌*◌, ◌/◌, ◌%◌, ◌^◌, ◌<◌, ◌≤◌, Bool, true, false, cond, not, ◌&&◌, ◌||◌, eqb, List, length, get_or, set, refl, sym, ap, ◌∙◌, ⊎_elim, zero-add, arith, pow_mono, get_or-set_other, get_or-set_same}
 use lib.Bits.{bit_and, bit_or}
 use Rattle.std.proofs.lemmas.Nat.{shr-shr}
-use Rattle.std.proofs.lemmas.Bool.{cases_eq, cond-true, cond-false, lt-ltb, le-ltb}
+use Rattle.std.proofs.lemmas.Bool.{cases_eq, cond-true, cond-false, lt-ltb, le-ltb, le-leb}
 use Rattle.logic.specs.Codes.{bit}
 use Rattle.full.specs.Bytes.{width, bit_from, CodeMask}
 use Rattle.full.specs.Passes.{Merged, Mended, Recoded}
@@ -75,3 +75,30 @@ recoded on n old mid new mask B wide masks merged mended = record {
       ∙ cond-false (bit mask (c % 8)) _ _ off ∙ ap (λ p. bit (get_or old p 0) (c % 8)) (sym here))
       (codes_of_width n);
 }
+
+-- A set of one byte, which was merged with another byte and has its former bits where the mask lacks them.
+pub recoded_byte : (on : Bool → Bool → Bool) (n : ℕ) (old : List ℕ) (made mask : ℕ) (B : ℕ → ℕ → Bool)
+    → n < 3 → length old ≡ width n → CodeMask n mask → mask < 256 → ((m : ℕ) → m < 8 → bit made m ≡ on (bit (get_or old 0 0) m) (B 0 m))
+    → Recoded n old (set old 0 (bit_or (bit_and made mask) (bit_and (get_or old 0 0) (255 - mask)))) (λ c. on (bit_from old 0 c) (B (c / 8) (c % 8)))
+recoded_byte on n old made mask B few long masks small is =
+    let wide : width n ≡ 1 = cond-true _ 1 (2 ^ (n - 3)) (le-leb n 3 (omega arith)) in
+    let some : 0 < length old = omega arith in
+    let before = get_or old 0 0 in
+    let last = bit_or (bit_and made mask) (bit_and before (255 - mask)) in
+    let first = get_or-set_same old 0 made 0 some in
+    recoded on n old (set old 0 made) (set old 0 last) mask B long masks
+    (λ x m x< m<.
+    let e : x ≡ 0 = omega arith in
+    ap (λ p. bit (get_or (set old 0 made) p 0) m) e ∙ ap (λ b. bit b m) first ∙ is m m< ∙ ap (λ p. on (bit (get_or old p 0) m) (B p m)) (sym e))
+    (record {
+      others = λ k ne. get_or-set_other old 0 k last 0 ne ∙ sym (get_or-set_other old 0 k made 0 ne);
+      first = λ m m<. ap (λ b. bit b m) (get_or-set_same old 0 last 0 some) ∙ mended_byte made before mask m small m< ∙ ap (λ b. cond (bit mask m) (bit b m) (bit before m)) (sym first);
+    })
+
+-- A set without spare bits that was merged into.
+pub recoded_whole : (on : Bool → Bool → Bool) (n : ℕ) (old new : List ℕ) (mask : ℕ) (B : ℕ → ℕ → Bool)
+    → 3 ≤ n → length old ≡ width n → CodeMask n mask → Merged on old new B → Recoded n old new (λ c. on (bit_from old 0 c) (B (c / 8) (c % 8)))
+recoded_whole on n old new mask B many long masks merged =
+    let top : 2 ^ 3 ≤ 2 ^ n = pow_mono {i = 3} {j = n} many in
+    recoded on n old new new mask B long masks merged
+    (record { others = λ k ne. refl; first = λ m m<. sym (cond-true (bit mask m) _ _ (masks m m< ∙ lt-ltb m (2 ^ n) (omega arith))) })

@@ -18,9 +18,12 @@ impl Layout {
         requires long { length span.old ≤ length source.now }
         ensures { Recoded (shape_bits self.now.shape) span.old span.new (λ c. op.bits (bit_from span.old 0 c) (bit_from source.now 0 c)) }
     {
-        let before = span[0];
-        spans::merge(span, source, by);
-        self.mend(span, before);
+        // With spare bits a set is one byte. It is written once, since the next call waits for it.
+        if self.bits < 3 {
+            span[0] = (by(span[0], source[0]) & self.mask) | (span[0] & !self.mask);
+        } else {
+            spans::merge(span, source, by);
+        }
     }
 
     // Clears the codes of a set that lack the bit b.

@@ -42,8 +42,8 @@ fn answer(full: &mut Full, call: u8, bit: usize, t: usize) -> Result<usize, Faul
         4 => full.meet(1, j)?,
         5 => full.flip(1)?,
         6 => full.pick(1, bit)?,
-        7 => return full.same(1, j).map(usize::from),
-        8 => return full.has(1, t % 4096).map(usize::from),
+        7 => return Ok(usize::from(full.same(1, j)?)),
+        8 => return Ok(usize::from(full.has(1, t % 4096)?)),
         9 => return Ok(full.next(1, t % 8)?.unwrap_or(4096)),
         _ => {}
     }

@@ -16,6 +16,7 @@ pub struct ArcList {
     pub count: usize,
 }
 
+#[inline(never)]
 pub fn read_arcs(
     reader: &mut Reader<'_>,
     states: &[Name],

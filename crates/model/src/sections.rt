@@ -20,6 +20,7 @@ pub struct Sections {
     pub arcs: ArcList,
 }
 
+#[inline(never)]
 pub fn read_sections(reader: &mut Reader<'_>) -> Result<Sections, Fault>
     ensures reads { ReadsAll reader.old result reader.new }
     ensures same { reader.new.text ≡ reader.old.text }
@@ -39,7 +40,9 @@ pub fn read_sections(reader: &mut Reader<'_>) -> Result<Sections, Fault>
 }
 
 impl Sections {
-    // The model that the sections make.
+    // The model that the sections make. Not inlined, nor are `read_sections` and `read_arcs`: the room for what a function keeps
+    // is taken when it is called, so that a text that is refused earlier does not pay for it.
+    #[inline(never)]
     pub fn model(&self) -> Model
         ensures { result ≡ gathered self.now }
     {
