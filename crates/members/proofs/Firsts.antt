@@ -1,5 +1,5 @@
 -- The smallest member among the listed ones. Assumes nothing.
-use Rattle.std.proofs.Common.{◌≡◌, ℕ, ◌^◌, ◌<◌, Bool, true, false, List, length, Some, None, Option, sym, refl, ap, ◌∙◌, subst, ⊎_elim, slice_index, is_lt, Ordering, arith}
+use Rattle.std.proofs.Common.{◌≡◌, ℕ, ◌<◌, Bool, true, false, List, length, Some, None, Option, sym, refl, ap, ◌∙◌, subst, ⊎_elim, slice_index, is_lt, Ordering, arith}
 use Rattle.std.proofs.lemmas.Bool.{both_ways, cases_eq}
 use Rattle.std.proofs.lemmas.Bool.Decides.{not_from_Decides}
 use Rattle.std.specs.Option.{MatchOption, IsSomeAnd, IfSome, option_map}
@@ -10,8 +10,8 @@ use Rattle.std.specs.Iterator.Runs.{Run, WholeRun, AnyItem, NoKeyBeyond, CallKee
 use Rattle.std.proofs.iter.Rest.{run_of_first}
 use denote.Param.Members.{Mut}
 use denote.Ref.{Bor}
-use lib.Count as count
 use Rattle.members.specs.Numbers.{Lists}
+use Rattle.members.specs.Order.{ones}
 use Rattle.members.specs.Smallest.{Smallest, SmallestUnique}
 use Rattle.members.proofs.Listing.{not_member}
 use Rattle.members.proofs.Ordering.{before_orders, before_decided}
@@ -45,16 +45,15 @@ module _ (cs : List ℕ) (p : Run {S = List ℕ} {A = ℕ} (YieldsFirst (λ rest
       ((run_of_first (λ rest. rest) p).1.2 i 0 (let long = run_long in omega arith) ∙ ap (λ l. Some (slice_index l i)) from)
 
 -- the listed one whose key no other's precedes, as `min_by_key` finds it
-pub smallest_listed : {F : Type 0} (m : ℕ → Bool) (cs : List ℕ) → Lists m cs → ((c : ℕ) → m c ≡ true → c < 2 ^ 64)
-    → (g : Mut F (Bor ℕ × Unit {0}) (ℕ × ℕ)) (f : F) → CallKeepsClosure g f → ((c : ℕ) (k : ℕ × ℕ) → CalledAt g f c k f → k ≡ (count.ones c, c))
+pub smallest_listed : {F : Type 0} (m : ℕ → Bool) (cs : List ℕ) → Lists m cs → (g : Mut F (Bor ℕ × Unit {0}) (ℕ × ℕ)) (f : F) → CallKeepsClosure g f → ((c : ℕ) (k : ℕ × ℕ) → CalledAt g f c k f → k ≡ (ones c, c))
     → (o : Option ℕ)
     → WholeRun {S = List ℕ} {A = ℕ} (YieldsFirst (λ rest. rest)) cs (λ p. MatchOption o (p.len ≡ 0) (λ b. AnyItem p (λ x. x ≡ b) × NoKeyBeyond p g f is_lt by_key b))
     → Smallest m o
-smallest_listed m cs lists small g f keeps tells None run =
+smallest_listed m cs lists g f keeps tells None run =
     let long = run_long cs run.0 run.1 run.2 in
     let none = run.3 in
     λ c. not_member (m c) (λ here. let w = lists.whole c here in let low = w.1 in absurd (omega arith))
-smallest_listed {F} m cs lists small g f keeps tells (Some b) run =
+smallest_listed {F} m cs lists g f keeps tells (Some b) run =
     let long = run_long cs run.0 run.1 run.2 in
     let place = run.3.0 in
     let within = place.1 in
@@ -69,10 +68,10 @@ smallest_listed {F} m cs lists small g f keeps tells (Some b) run =
           let Has : ℕ → Type 0 = λ x. (j : ℕ × ℕ) × CalledAt g f x j f × (is_lt (by_key j key.0) ≡ false) in
           let Seen : Option ℕ → Type 0 = λ z. IfSome z Has in
           let seen = subst Has w.2 (subst Seen (run_at cs run.0 run.1 run.2 w.0 w.1) (key.2 w.0)) in
-          let late : is_lt (by_key (count.ones d, d) (count.ones b, b)) ≡ false =
-          ap (λ j. is_lt (by_key j (count.ones b, b))) (sym (tells d seen.0 seen.1)) ∙ ap (λ k. is_lt (by_key seen.0 k)) (sym (tells b key.0 key.1)) ∙ seen.2 in
+          let late : is_lt (by_key (ones d, d) (ones b, b)) ≡ false =
+          ap (λ j. is_lt (by_key j (ones b, b))) (sym (tells d seen.0 seen.1)) ∙ ap (λ k. is_lt (by_key seen.0 k)) (sym (tells b key.0 key.1)) ∙ seen.2 in
           ⊎_elim
           (λ before. before)
-          (λ before. absurd (not_from_Decides (is_lt (by_key (count.ones d, d) (count.ones b, b))) (before_decided d b (small d has) (small b here)) late before))
+          (λ before. absurd (not_from_Decides (is_lt (by_key (ones d, d) (ones b, b))) (before_decided d b) late before))
           (before_orders.either b d (λ same. other (sym same))),
     )

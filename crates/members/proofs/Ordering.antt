@@ -1,11 +1,11 @@
 -- The ones of a code, and the order by them. Assumes nothing.
-use Rattle.std.proofs.Common.{◌≡◌, ℕ, zero, suc, ◌+◌, ◌/◌, ◌%◌, ◌^◌, ◌<◌, ◌⊎◌, sym, refl, ap, ◌∙◌, inl, inr, ⊎_elim, false, Decides, Some, is_lt, Less, Equal, Greater, Ordering, mod-eq_of_lt, one-add, arith, pow_pos}
+use Rattle.std.proofs.Common.{◌≡◌, ℕ, zero, suc, ◌+◌, ◌/◌, ◌%◌, ◌^◌, ◌<◌, ◌⊎◌, sym, refl, ap, ◌∙◌, inl, inr, ⊎_elim, false, Decides, is_lt, Less, Equal, Greater, Ordering, mod-eq_of_lt, one-add, arith, pow_pos}
 use native.Mathlib.Nat.{mod-one}
 use lib.Count as count
 use Rattle.std.proofs.lemmas.Nat.{mod-pow-add, mod_below}
 use Rattle.std.proofs.lemmas.Bool.{both_ways, cases_Bool, cases_order, cond-true, cond-false, eqb-true, eqb-false}
 use Rattle.std.proofs.lemmas.Cmp.{ranked}
-use Rattle.std.specs.Ordering.{nat_cmp, ordering_then, partial_ordering_then, is_some_and, MatchOrdering}
+use Rattle.std.specs.Ordering.{nat_cmp, ordering_then, MatchOrdering}
 use Rattle.logic.specs.Codes.{bit}
 use Rattle.members.specs.Numbers.{number}
 use Rattle.members.specs.Order.{ones, Before, BeforeOrders}
@@ -83,12 +83,5 @@ pairs x y a b Equal Greater h k = (λ e. absurd (both_ways false refl e), λ l. 
 pairs x y a b Greater p h k = (λ e. absurd (both_ways false refl e), λ l. absurd (omega arith))
 
 -- so the library's order on pairs of ones and code is the order of codes
-pub before_decided : (a b : ℕ) → a < 2 ^ 64 → b < 2 ^ 64 → Decides (is_lt (ordering_then (nat_cmp (count.ones a) (count.ones b)) (nat_cmp a b))) (Before a b)
-before_decided a b la lb =
-    rw (ones_counted a la, ones_counted b lb)
-    (pairs (count.ones a) (count.ones b) a b (nat_cmp (count.ones a) (count.ones b)) (nat_cmp a b) (ranked (count.ones a) (count.ones b) _ refl) (ranked a b _ refl))
-
-pub partial_pairs : (o p : Ordering) → is_some_and is_lt (partial_ordering_then (Some o) (Some p)) ≡ is_lt (ordering_then o p)
-partial_pairs Less p = refl
-partial_pairs Equal p = refl
-partial_pairs Greater p = refl
+pub before_decided : (a b : ℕ) → Decides (is_lt (ordering_then (nat_cmp (ones a) (ones b)) (nat_cmp a b))) (Before a b)
+before_decided a b = pairs (ones a) (ones b) a b (nat_cmp (ones a) (ones b)) (nat_cmp a b) (ranked (ones a) (ones b) _ refl) (ranked a b _ refl)

@@ -2,6 +2,7 @@
 ghost use Rattle.store.specs.Calls.{one_set, Answers};
 ghost use Rattle.members.specs.Smallest.{Smallest};
 
+use crate::order::rank;
 use crate::walk::members_of;
 use store::calls::Store;
 use store::fault::Fault;
@@ -9,5 +10,5 @@ use store::fault::Fault;
 pub fn smallest<S: Store>(store: &S, i: usize) -> Result<Option<usize>, Fault>
     ensures { Answers result (one_set (S.frame store.now) i) (Smallest (S.sets store.now i)) }
 {
-    Ok(members_of(store, i)?.min_by_key(|c| (c.count_ones(), *c)))
+    Ok(members_of(store, i)?.min_by_key(|c| rank(*c)))
 }

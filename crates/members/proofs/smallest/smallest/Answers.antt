@@ -1,4 +1,4 @@
-use Rattle.std.proofs.Common.{rules, refl, arith, pow_mono}
+use Rattle.std.proofs.Common.{rules, refl}
 use Rattle.store.specs.Calls.{one_set}
 use Rattle.store.proofs.Refusals.{ok_answers, answers_ok}
 use Rattle.members.specs.Numbers.{Lists}
@@ -14,4 +14,4 @@ returns g c =
     let cs = c.in_ok-members_of.field-0 in
     let found = ok_answers cs (Lists m) (one_set f c.args.i) c.in_ok-members_of.ensures in
     answers_ok c.min_by_key.result (Smallest m) (one_set f c.args.i) found.0
-    (smallest_listed m cs found.1 (λ d here. omega (arith, g.S.Store.coded s c.args.i d here, pow_mono (g.S.Store.sound s).limits.bits_most)) _ (tt {0}) (λ a r q k. refl) (λ x k h. search rules) c.min_by_key.result c.min_by_key.ensures.runs)
+    (smallest_listed m cs found.1 _ (tt {0}) (λ a r q k. refl) (λ x k h. search rules) c.min_by_key.result c.min_by_key.ensures.runs)
