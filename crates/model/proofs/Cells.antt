@@ -1,6 +1,7 @@
 -- Cells behind a list: blank ones up to a fixed number.
-use Rattle.std.proofs.Common.{◌≡◌, ℕ, suc, ◌-◌, ◌<◌, ◌≤◌, List, [], ◌∷◌, ◌++◌, map, length, take, set, replicate, sym, refl, ap, ◌∙◌, arith}
-use Rattle.std.proofs.lemmas.List.{append_assoc, length-append, length-replicate, length-map, length-take, length_push, set-append_right, take_at}
+use Rattle.std.proofs.Common.{◌≡◌, ℕ, suc, ◌+◌, ◌-◌, ◌<◌, ◌≤◌, List, [], ◌∷◌, ◌++◌, map, length, take, set, replicate, sym, refl, ap, ◌∙◌, arith}
+use lib.Seq.{take-append-add}
+use Rattle.std.proofs.lemmas.List.{append_assoc, length-append, length-replicate, length-map, length-take, length_push, set-append_right, take-replicate, take_at}
 use Rattle.model.specs.Values.{padded}
 
 -- a cell that is written behind the others takes the place of a blank one
@@ -28,3 +29,11 @@ kept_count size n blank f g held kept le =
 
 pub take_padded : {X : Type 0} (n : ℕ) (blank : X) (xs : List X) (m : ℕ) → length xs ≡ m → take m (padded n blank xs) ≡ xs
 take_padded n blank xs m long = take_at xs (replicate (n - length xs) blank) m long
+
+-- the front of a longer list of cells is the shorter list of cells
+pub padded_front : {X : Type 0} (n m : ℕ) (blank : X) (xs : List X) → length xs ≤ n → n ≤ m → take n (padded m blank xs) ≡ padded n blank xs
+padded_front n m blank xs few le =
+    let long : n ≡ length xs + (n - length xs) = omega arith in
+    ap (λ k. take k (padded m blank xs)) long
+    ∙ take-append-add xs (replicate (m - length xs) blank) (n - length xs)
+    ∙ ap (λ ys. xs ++ ys) (take-replicate (n - length xs) (m - length xs) blank (omega arith))

@@ -1,10 +1,13 @@
 -- Lists in which nothing stands twice.
-use Rattle.std.proofs.Common.{◌≡◌, ℕ, zero, suc, ◌<◌, ◌⊎◌, List, [], ◌∷◌, ◌++◌, length, sym, inl, inr, ⊎_elim, arith}
+use Rattle.std.proofs.Common.{◌≡◌, ℕ, zero, suc, ◌<◌, ◌⊎◌, List, [], ◌∷◌, ◌++◌, length, refl, sym, inl, inr, ⊎_elim, arith}
 use Rattle.std.specs.List.{ContainsAt as Has, HoldsAt, AllByRecursion}
 use Rattle.std.proofs.ByRecursion.{has_push_cases, has_append_right}
 use Rattle.model.specs.Grammar.{Once}
 
 module _ {X : Type 0} where
+  pub has_here : (x : X) (xs : List X) → Has (x ∷ xs) x
+  has_here x xs = (0, omega arith, λ d. refl)
+
   pub has_later : (y : X) (xs : List X) (x : X) → Has xs x → Has (y ∷ xs) x
   has_later y xs x h = (suc h.0, omega (arith, h.1), h.2)
 

@@ -156,6 +156,9 @@ same_given c c' s a p all Properties = subst (Given Properties) p (all Propertie
 pub all_none : {X : Type 0} (P : X → Type 0) (xs : List X) → xs ≡ [] → AllByRecursion P xs
 all_none P xs e = subst (AllByRecursion P) (sym e) tt
 
+pub once_none : {X : Type 0} (xs : List X) → xs ≡ [] → Once xs
+once_none xs e = subst Once (sym e) tt
+
 pub sound_with : (k : Names) (c : Content) (ws : List (List ℕ)) → Sound c → c.labels ≡ [] → c.arcs ≡ [] → Given k ws → Sound (with_names k c ws)
 sound_with States c ws s l e g =
     record { given = given_with States c ws s.given g; labels_inside = all_none _ c.labels l; labels_once = s.labels_once; arcs_inside = all_none _ c.arcs e; arcs_once = s.arcs_once }

@@ -4,7 +4,7 @@ use Rattle.std.proofs.lemmas.List.{length-map, length-drop}
 use Rattle.std.proofs.lemmas.Bool.Decides.{nat_tests}
 use Rattle.logic.specs.Table.{Table}
 use Rattle.words.specs.declared.Fault.{Fault}
-use Rattle.words.specs.Faults.{number, position}
+use Rattle.words.specs.Faults.{number, position, text_limit}
 use Rattle.words.specs.Words.{counted, limited, decimal, name_bytes, name_from}
 use Rattle.words.specs.declared.Letters.TheVariants.{Upper}
 use Rattle.words.proofs.Words.{kept_whole}
@@ -35,7 +35,7 @@ use Rattle.report.specs.Laying.{whole_frame, ReadTo, ReadAt, Refused, SheetLaid}
 use Rattle.report.specs.Lines.{action_names, variable_names}
 use Rattle.report.specs.Printers.{Lays, LaysSome}
 use Rattle.report.specs.Reports.{Sheet, Told}
-use Rattle.report.proofs.Moving.{sheet_reaches, next_is}
+use Rattle.report.proofs.Moving.{refused_inside, sheet_reaches, next_is}
 
 limited_high : (low high n : ℕ) (o : Option ℕ) → limited low high o ≡ Some n → n ≤ high
 limited_high low high n None h = let z : ◌≡◌ {A = ℕ} 0 1 = cc in absurd (omega arith)
@@ -183,6 +183,10 @@ pub read_err : (text : List ℕ) (from : ℕ) (actions properties : List (List �
     → formula.Refusal (drop from text) actions properties (number e) (position e) → ReadAt text from actions properties r place
 read_err text from actions properties place d e is same h =
     let P : Result ℕ Fault → Type 0 = λ z. ReadAt text from actions properties z place in subst P (sym (is ∙ ap (λ z. Err z) same)) h
+
+pub offset_low : (text text' : List ℕ) (from : ℕ) (v : Vocabulary) (before after : Formula) (n at : ℕ) → text' ≡ drop from text → length text ≤ text_limit → formula.Untouched text' v before after n at → at ≤ text_limit
+offset_low text text' from v before after n at is short h =
+    refused_inside _ text' _ n at (let long : length text' ≡ length text - from = ap length is ∙ length-drop from text in omega arith) h.refusal
 
 pub misread : (text : List ℕ) (size from : ℕ) (m : Model) (c : model.Content) → Admissible c → m ≡ model_of c → (e : Fault)
     → formula.Refusal (drop from text) (given_action_names m.vocabulary) (given_property_names m.vocabulary) (number e) (position e) → Refused text size c from (Reading e)

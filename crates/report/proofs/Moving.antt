@@ -1,8 +1,9 @@
 -- How far a sheet reaches in its text. Assumes nothing.
-use Rattle.std.proofs.Common.{◌≡◌, ℕ, zero, suc, ◌+◌, ◌-◌, ◌<◌, ◌≤◌, true, false, List, length, drop, sym, refl, ap, ◌∙◌, arith}
+use Rattle.std.proofs.Common.{◌≡◌, ℕ, zero, suc, ◌+◌, ◌-◌, ◌<◌, ◌≤◌, true, false, List, length, drop, sym, refl, ap, ◌∙◌, inl, inr, arith}
 use Rattle.std.proofs.lemmas.List.{length-drop}
 use Rattle.std.proofs.lemmas.Bool.{both_ways}
-use Rattle.words.specs.Walks.{Rules, Walk, Walks}
+use Rattle.words.specs.Faults.{text_limit}
+use Rattle.words.specs.Walks.{Rules, Walk, Walks, SheetRefused}
 use Rattle.model.specs.Content as model
 use Rattle.model.specs.Grammar.{ModelSheet}
 use Rattle.model.proofs.Sheets.{sheets_are_walks}
@@ -27,6 +28,11 @@ module _ {S : Type 0} (R : Rules S) (text : List ℕ) where
 
   pub walks_move : (s : S) (p : ℕ) (t : S) (q : ℕ) → R.over s ≡ false → R.over t ≡ true → Walks R text s p t q → (p < q) × (q ≤ length text)
   walks_move s p t q due over w = walk_moves w.words s p t q due over w.walk
+
+  pub refused_inside : (s : S) (n at : ℕ) → length text ≤ text_limit → SheetRefused R text s n at → at ≤ text_limit
+  refused_inside s n at short (inl h) = absurd (omega (arith, h.0))
+  refused_inside s n at short (inr h) =
+      elim h.1.stops.fault [ inl e ↦ omega (arith, e.1) | inr w ↦ omega (arith, w.1.some, w.1.inside) ]
 
 pub model_reaches : (text : List ℕ) (c : model.Content) (end : ℕ) → ModelSheet text c end → (0 < end) × (end ≤ length text)
 model_reaches text c end s = walks_move _ text _ 0 _ end refl refl ((sheets_are_walks text c end).0 s).1
