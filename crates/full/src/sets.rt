@@ -42,6 +42,8 @@ impl Universe {
         self.merge(cells, i, |_, other| other)
     }
 
+    // Not inlined, as `Layout::same`: a caller that makes all the calls has too few registers for all their loops.
+    #[inline(never)]
     pub(crate) fn flip(&self, cells: &mut [u8], i: usize) -> Result<(), Fault>
         ensures { Altered self.now.layout.shape cells.old cells.new result (one_set (full_frame self.now.layout.shape cells.old) i) i (λ c. valuation (shape_actions self.now.layout.shape) (shape_variables self.now.layout.shape) c && not (full_sets self.now.layout.shape cells.old i c)) }
     {
@@ -109,6 +111,8 @@ impl Layout {
         Ok(())
     }
 
+    // Not inlined, as `Universe::flip`: so its loop is as fast wherever the linker puts it.
+    #[inline(never)]
     pub(crate) fn same(&self, cells: &[u8], i: usize, j: usize) -> Result<bool, Fault>
         ensures { Answers result (two_sets (full_frame self.now.shape cells.now) i j) (λ b. Decides b (SameMembers (full_sets self.now.shape cells.now i) (full_sets self.now.shape cells.now j))) }
     {
